@@ -1,0 +1,4 @@
+pub mod Permutations
+pub mod Loops
+pub mod Undoing
+pub mod Parity

@@ -1,0 +1,75 @@
+use native.Mathlib.Nat.{add-zero}
+use native.Mathlib.Omega.{arith}
+use mathlib.Core.Path.{_≡_, refl, sym, ap, _∙_}
+use Prim.Native.Nat.{ℕ, _+_, _*_, _/_, _%_, _^_, _≤_, _<_, _-_}
+use lib.ListN.{length, getD, drop, take, set, drop-of-length-le}
+use Rattle.ground.specs.Lists.{sets-step, sets-end}
+use lib.ListN.{length-set}
+use lib.Seq.{sets}
+use borrow.Author.Needs.{needs}
+use Rattle.cipher.proofs.words.put_block.Statement.{statement}
+use Rattle.cipher.proofs.words.put_block.Tie as tie
+use Rattle.cipher.proofs.words.put_block.Reads as reads
+use Rattle.cipher.proofs.words.put_block.Lts as lts
+
+abbrev Inv-loop : tie.InvT-loop
+Inv-loop s₀ at x b i₀ s i =
+    (i ≤ 8) × (length s ≡ length s₀) × (sets s (at + i) (drop i b) ≡ sets s₀ at b)
+
+abbrev μ-loop : tie.MeasureT-loop
+μ-loop s₀ at x b i₀ s i = 8 - i
+
+bytes-of-requires : tie.Need-bytes-of-requires Inv-loop μ-loop
+bytes-of-requires c κs = search needs
+
+loop-holds : tie.Need-loop-holds Inv-loop μ-loop
+loop-holds c = (search needs, search needs, ap (λ (n : ℕ). sets (c .before .before .args .s .now) n (c .bytes-of .result)) (add-zero _))
+
+array-read-s : tie.Need-array-read-s Inv-loop μ-loop
+array-read-s c = search needs
+
+add-s : tie.Need-add-s Inv-loop μ-loop
+add-s c = search needs
+
+slice-write-s : tie.Need-slice-write-s Inv-loop μ-loop
+slice-write-s c = search needs
+
+add-i : tie.Need-add-i Inv-loop μ-loop
+add-i c = search needs
+
+loop-less : tie.Need-loop-less Inv-loop μ-loop
+loop-less c = search needs
+
+loop-again : tie.Need-loop-again Inv-loop μ-loop
+loop-again c =
+    let h : c .before .loop .i < length (c .before .before .bytes-of .result) = search needs in (
+      search needs,
+      simp length-set (c .before .loop .inv .1),
+      sym (sets-step _ _ _ _ h) ∙ c .before .loop .inv .2,
+    )
+
+same-length : tie.Need-same-length Inv-loop μ-loop
+same-length c = c .before .loop .inv .1
+
+returns : tie.Need-returns Inv-loop μ-loop
+returns c =
+    let l : length (c .before .before .bytes-of .result) ≡ 8 = search needs in
+    let h : length (c .before .before .bytes-of .result) ≤ c .before .loop .i = omega arith in
+    sym (sets-end _ _ _ _ h) ∙ c .before .loop .inv .2 ∙ ap (sets (c .before .before .before .before .args .s .now) (c .before .before .before .before .args .at)) (c .before .before .bytes-of .ensures)
+
+pub put-block-spec : {M : Type 1} → statement M
+put-block-spec =
+    tie.close
+    (tie.spec
+    Inv-loop
+    μ-loop
+    bytes-of-requires
+    loop-holds
+    array-read-s
+    add-s
+    slice-write-s
+    add-i
+    loop-less
+    loop-again
+    same-length
+    returns)

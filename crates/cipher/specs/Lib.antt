@@ -1,0 +1,4 @@
+pub mod Bits
+pub mod Tables
+pub mod Fips46
+pub mod Cipher
