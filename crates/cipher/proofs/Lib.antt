@@ -2,3 +2,7 @@ pub mod Permutations
 pub mod Loops
 pub mod Undoing
 pub mod Parity
+pub mod Texts
+pub mod Turns
+pub mod Blocks
+pub mod Promise

@@ -1,4 +1,5 @@
 pub mod Bits
 pub mod Tables
 pub mod Fips46
+pub mod Fips81
 pub mod Cipher

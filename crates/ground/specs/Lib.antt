@@ -1,4 +1,4 @@
 pub mod Tests
+pub mod Lists
 pub mod Rows
 pub mod Xor
-pub mod Lists

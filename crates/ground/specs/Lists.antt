@@ -6,7 +6,7 @@ use native.Mathlib.Nat.{add-suc, le-of-suc-le-suc, not-suc-le-zero, suc-sub-suc,
 use native.Mathlib.Numerals.{add-one}
 use native.Mathlib.Omega.{arith}
 use lib.ListN.{length, getD, take, drop, set, replicate, length-append, length-drop, drop-of-length-le}
-use lib.Seq.{sets, sets-eq, drop-cons, take-at, drop-at, length-take-le, take-suc-set, take-all}
+use lib.Seq.{sets, sets-eq, drop-cons, take-at, drop-at, length-take-le, take-suc-set, take-all, getD-drop}
 
 -- ---- stores
 
@@ -91,3 +91,26 @@ getD-past (x ∷ xs) (suc i) h = getD-past xs i (le-of-suc-le-suc h)
 -- the part from `at` to the end
 pub rest-all : (xs : List ℕ) (at : ℕ) → take (length xs - at) (drop at xs) ≡ drop at xs
 rest-all xs at = take-all (length xs - at) (drop at xs) (rw length-drop (omega arith))
+
+pub none : (xs : List ℕ) → length xs ≡ 0 → xs ≡ []
+none [] h = refl
+none (x ∷ xs) h = absurd (omega arith)
+
+-- ---- every entry is below b, and what is read past the end, 0, too
+
+abbrev pub Below : ℕ → List ℕ → Type 0
+Below b xs = (i : ℕ) → getD xs i 0 < b
+
+pub below-take : (b n : ℕ) (xs : List ℕ) → 0 < b → Below b xs → Below b (take n xs)
+below-take b zero xs z h i = z
+below-take b (suc n) [] z h i = z
+below-take b (suc n) (x ∷ xs) z h zero = h 0
+below-take b (suc n) (x ∷ xs) z h (suc i) = below-take b n xs z (λ j. h (suc j)) i
+
+pub below-drop : (b n : ℕ) (xs : List ℕ) → Below b xs → Below b (drop n xs)
+below-drop b n xs h i = rw (getD-drop n xs i 0) (h (n + i))
+
+pub below-append : (b : ℕ) (xs ys : List ℕ) → Below b xs → Below b ys → Below b (xs ++ ys)
+below-append b [] ys h k i = k i
+below-append b (x ∷ xs) ys h k zero = h 0
+below-append b (x ∷ xs) ys h k (suc i) = below-append b xs ys (λ j. h (suc j)) k i

@@ -6,43 +6,7 @@ use Rattle.cipher.specs.Fips46.{computed, KS, decipher}
 use Rattle.cipher.specs.Cipher.{deciphered-means}
 use Rattle.cipher.proofs.block.backwards.Statement.{statement}
 use Rattle.cipher.proofs.block.backwards.Tie as tie
-use Rattle.cipher.proofs.block.backwards.Reads as reads
-use Rattle.cipher.proofs.block.backwards.Lts as lts
-use Rattle.cipher.proofs.rounds.compute.Reads as compute-reads
-use Rattle.cipher.proofs.schedule.key_schedule.Reads as key-schedule-reads
-use Rattle.cipher.proofs.schedule.reversed.Reads as reversed-reads
-use Rattle.cipher.proofs.words.bytes_of.Reads as bytes-of-reads
-use Rattle.cipher.proofs.words.word_of.Reads as word-of-reads
 
--- src/block.rt:23:38
-word-of-requires : tie.Need-word-of-requires
-word-of-requires c κs = search needs
-
--- src/block.rt:23:25
-key-schedule-requires : tie.Need-key-schedule-requires
-key-schedule-requires c κs = search needs
-
--- src/block.rt:23:16
-reversed-requires : tie.Need-reversed-requires
-reversed-requires c κs = search needs
-
--- src/block.rt:24:22
-slice-aggregate-compute : tie.Need-slice-aggregate-compute
-slice-aggregate-compute c = search needs
-
--- src/block.rt:24:29
-word-of-requires-2 : tie.Need-word-of-requires-2
-word-of-requires-2 c κs = search needs
-
--- src/block.rt:24:14
-compute-requires : tie.Need-compute-requires
-compute-requires c κs = search needs
-
--- src/block.rt:24:5
-bytes-of-requires : tie.Need-bytes-of-requires
-bytes-of-requires c κs = search needs
-
--- src/block.rt:20:1
 returns : tie.Need-returns
 unfolding decipher
 returns c =
@@ -55,11 +19,11 @@ pub backwards-spec : {M : Type 1} → statement M
 backwards-spec =
     tie.close
     (tie.spec
-    word-of-requires
-    key-schedule-requires
-    reversed-requires
-    slice-aggregate-compute
-    word-of-requires-2
-    compute-requires
-    bytes-of-requires
+    (λ c κs. search needs)
+    (λ c κs. search needs)
+    (λ c κs. search needs)
+    (λ c. search needs)
+    (λ c κs. search needs)
+    (λ c κs. search needs)
+    (λ c κs. search needs)
     returns)

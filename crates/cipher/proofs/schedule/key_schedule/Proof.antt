@@ -1,16 +1,14 @@
 use Rattle.cipher.proofs.Loops.{shift-small, key-step, key-end}
 use borrow.Author.Needs.{needs}
 use native.Mathlib.Omega.{arith}
-use mathlib.Core.Path.{_≡_, refl, sym, ap, _∙_}
-use Prim.Native.Nat.{ℕ, _+_, _*_, _/_, _%_, _^_, _≤_, _<_, _-_}
-use lib.ListN.{length, getD, drop, take, drop-of-length-le}
+use mathlib.Core.Path.{_≡_, sym, ap, _∙_}
+use Prim.Native.Nat.{ℕ, _+_, _/_, _%_, _^_, _≤_, _<_, _-_}
+use lib.ListN.{length, drop, take}
 use mathlib.Core.List.{_++_}
 use Rattle.cipher.specs.Fips46.{scheduled, KS}
 use Rattle.cipher.specs.Tables.{shifts}
 use Rattle.cipher.proofs.schedule.key_schedule.Statement.{statement}
 use Rattle.cipher.proofs.schedule.key_schedule.Tie as tie
-use Rattle.cipher.proofs.schedule.key_schedule.Reads as reads
-use Rattle.cipher.proofs.schedule.key_schedule.Lts as lts
 
 abbrev Inv-loop : tie.InvT-loop
 Inv-loop key x c₀ d₀ keys₀ i₀ t9 c d keys i =
@@ -19,21 +17,6 @@ Inv-loop key x c₀ d₀ keys₀ i₀ t9 c d keys i =
 
 abbrev μ-loop : tie.MeasureT-loop
 μ-loop key x c₀ d₀ keys₀ i₀ t9 c d keys i = 16 - i
-
-slice-aggregate-permute : tie.Need-slice-aggregate-permute Inv-loop μ-loop
-slice-aggregate-permute c = search needs
-
-permute-requires : tie.Need-permute-requires Inv-loop μ-loop
-permute-requires c κs = search needs
-
-loop-holds : tie.Need-loop-holds Inv-loop μ-loop
-loop-holds c = search needs
-
-array-read-wide : tie.Need-array-read-wide Inv-loop μ-loop
-array-read-wide c = search needs
-
-wide-requires : tie.Need-wide-requires Inv-loop μ-loop
-wide-requires c κs = search needs
 
 left-shift-requires : tie.Need-left-shift-requires Inv-loop μ-loop
 left-shift-requires c κs =
@@ -46,30 +29,6 @@ left-shift-requires-2 c κs =
     let h : c .before .before .before .loop .i < 16 = search needs in
     let s : (1 ≤ c .before .wide .result) × (c .before .wide .result ≤ 2) = rw (c .before .wide .ensures .0) (shift-small _ h) in
     search needs
-
-slice-aggregate-permute-2 : tie.Need-slice-aggregate-permute-2 Inv-loop μ-loop
-slice-aggregate-permute-2 c = search needs
-
-mul-permute : tie.Need-mul-permute Inv-loop μ-loop
-mul-permute c = search needs
-
-add-permute : tie.Need-add-permute Inv-loop μ-loop
-add-permute c = search needs
-
-permute-requires-2 : tie.Need-permute-requires-2 Inv-loop μ-loop
-permute-requires-2 c κs = search needs
-
-mul-keys : tie.Need-mul-keys Inv-loop μ-loop
-mul-keys c = search needs
-
-array-write-keys : tie.Need-array-write-keys Inv-loop μ-loop
-array-write-keys c = search needs
-
-add-i : tie.Need-add-i Inv-loop μ-loop
-add-i c = search needs
-
-loop-less : tie.Need-loop-less Inv-loop μ-loop
-loop-less c = search needs
 
 loop-again : tie.Need-loop-again Inv-loop μ-loop
 loop-again c =
@@ -97,20 +56,20 @@ key-schedule-spec =
     (tie.spec
     Inv-loop
     μ-loop
-    slice-aggregate-permute
-    permute-requires
-    loop-holds
-    array-read-wide
-    wide-requires
+    (λ c. search needs)
+    (λ c κs. search needs)
+    (λ c. search needs)
+    (λ c. search needs)
+    (λ c κs. search needs)
     left-shift-requires
     left-shift-requires-2
-    slice-aggregate-permute-2
-    mul-permute
-    add-permute
-    permute-requires-2
-    mul-keys
-    array-write-keys
-    add-i
-    loop-less
+    (λ c. search needs)
+    (λ c. search needs)
+    (λ c. search needs)
+    (λ c κs. search needs)
+    (λ c. search needs)
+    (λ c. search needs)
+    (λ c. search needs)
+    (λ c. search needs)
     loop-again
     returns)

@@ -1,6 +1,4 @@
 use mathlib.Core.Path.{sym}
-use native.Mathlib.Omega.{arith}
-use lib.ListN.{length, getD}
 use borrow.Author.Needs.{needs}
 use Rattle.ground.specs.Lists.{getD-past}
 use Rattle.cipher.proofs.words.byte_or_zero.Statement.{statement}

@@ -1,19 +1,17 @@
 -- `cipher::permute` meets its contract.
 use mathlib.Core.List.{map}
-use mathlib.Core.Path.{_≡_, refl, sym, ap, _∙_, subst}
-use Prim.Native.Nat.{ℕ, _+_, _*_, _/_, _%_, _^_, _≤_, _<_, _-_}
+use mathlib.Core.Path.{_≡_, refl, sym, _∙_}
+use Prim.Native.Nat.{_+_, _*_, _^_, _≤_, _<_, _-_}
 use native.Mathlib.Omega.{arith}
 use lib.Dec.{lit<}
 use borrow.Author.Needs.{needs}
-use lib.ListN.{length, getD, drop}
+use lib.ListN.{length, drop}
 use Rattle.cipher.specs.Bits.{bit}
 use Rattle.ground.specs.Tests.{entry}
 use Rattle.ground.specs.Rows.{row, wider, shorter, row-map-step, row-map-end}
 use Rattle.cipher.proofs.Permutations.{bit-lt}
 use Rattle.cipher.proofs.words.permute.Statement.{statement}
 use Rattle.cipher.proofs.words.permute.Tie as tie
-use Rattle.cipher.proofs.words.permute.Reads as reads
-use Rattle.cipher.proofs.words.permute.Lts as lts
 
 abbrev Inv-loop : tie.InvT-loop
 Inv-loop w table x out₀ i₀ out i =
@@ -24,12 +22,6 @@ abbrev μ-loop : tie.MeasureT-loop
 
 loop-holds : tie.Need-loop-holds Inv-loop μ-loop
 loop-holds c = (search needs, omega arith, refl)
-
-shared-slice-read-wide : tie.Need-shared-slice-read-wide Inv-loop μ-loop
-shared-slice-read-wide c = search needs
-
-wide-requires : tie.Need-wide-requires Inv-loop μ-loop
-wide-requires c κs = search needs
 
 -- the entry that is read names a bit
 entry-read : (c : tie.After-wide Inv-loop μ-loop) → (1 ≤ c .wide .result) × (c .wide .result ≤ c .before .before .before .before .before .args .w)
@@ -53,12 +45,6 @@ shr-out c = omega (arith, entry-read c, c .wide .ensures .0)
 add-out : tie.Need-add-out Inv-loop μ-loop
 add-out c = let h : c .before .before .before .loop .i + 1 ≤ 64 = omega arith in record { fits = shorter 2 (lit< tt) h (more c) }
 
-add-i : tie.Need-add-i Inv-loop μ-loop
-add-i c = search needs
-
-loop-less : tie.Need-loop-less Inv-loop μ-loop
-loop-less c = search needs
-
 loop-again : tie.Need-loop-again Inv-loop μ-loop
 loop-again c =
     let h : c .before .before .before .loop .i < length (c .before .before .before .before .before .args .table .now) = search needs in
@@ -77,13 +63,13 @@ permute-spec =
     Inv-loop
     μ-loop
     loop-holds
-    shared-slice-read-wide
-    wide-requires
+    (λ c. search needs)
+    (λ c κs. search needs)
     sub-n
     mul-out
     shr-out
     add-out
-    add-i
-    loop-less
+    (λ c. search needs)
+    (λ c. search needs)
     loop-again
     returns)

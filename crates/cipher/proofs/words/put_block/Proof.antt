@@ -1,16 +1,14 @@
 use native.Mathlib.Nat.{add-zero}
 use native.Mathlib.Omega.{arith}
-use mathlib.Core.Path.{_≡_, refl, sym, ap, _∙_}
-use Prim.Native.Nat.{ℕ, _+_, _*_, _/_, _%_, _^_, _≤_, _<_, _-_}
-use lib.ListN.{length, getD, drop, take, set, drop-of-length-le}
+use mathlib.Core.Path.{_≡_, sym, ap, _∙_}
+use Prim.Native.Nat.{ℕ, _+_, _≤_, _<_, _-_}
+use lib.ListN.{length, drop}
 use Rattle.ground.specs.Lists.{sets-step, sets-end}
 use lib.ListN.{length-set}
 use lib.Seq.{sets}
 use borrow.Author.Needs.{needs}
 use Rattle.cipher.proofs.words.put_block.Statement.{statement}
 use Rattle.cipher.proofs.words.put_block.Tie as tie
-use Rattle.cipher.proofs.words.put_block.Reads as reads
-use Rattle.cipher.proofs.words.put_block.Lts as lts
 
 abbrev Inv-loop : tie.InvT-loop
 Inv-loop s₀ at x b i₀ s i =
@@ -19,26 +17,8 @@ Inv-loop s₀ at x b i₀ s i =
 abbrev μ-loop : tie.MeasureT-loop
 μ-loop s₀ at x b i₀ s i = 8 - i
 
-bytes-of-requires : tie.Need-bytes-of-requires Inv-loop μ-loop
-bytes-of-requires c κs = search needs
-
 loop-holds : tie.Need-loop-holds Inv-loop μ-loop
 loop-holds c = (search needs, search needs, ap (λ (n : ℕ). sets (c .before .before .args .s .now) n (c .bytes-of .result)) (add-zero _))
-
-array-read-s : tie.Need-array-read-s Inv-loop μ-loop
-array-read-s c = search needs
-
-add-s : tie.Need-add-s Inv-loop μ-loop
-add-s c = search needs
-
-slice-write-s : tie.Need-slice-write-s Inv-loop μ-loop
-slice-write-s c = search needs
-
-add-i : tie.Need-add-i Inv-loop μ-loop
-add-i c = search needs
-
-loop-less : tie.Need-loop-less Inv-loop μ-loop
-loop-less c = search needs
 
 loop-again : tie.Need-loop-again Inv-loop μ-loop
 loop-again c =
@@ -63,13 +43,13 @@ put-block-spec =
     (tie.spec
     Inv-loop
     μ-loop
-    bytes-of-requires
+    (λ c κs. search needs)
     loop-holds
-    array-read-s
-    add-s
-    slice-write-s
-    add-i
-    loop-less
+    (λ c. search needs)
+    (λ c. search needs)
+    (λ c. search needs)
+    (λ c. search needs)
+    (λ c. search needs)
     loop-again
     same-length
     returns)
