@@ -1,0 +1,32 @@
+-- What the functions compute, entry by entry; and what parity and notarizing leave: eight bytes, each with an odd number of ones.
+use mathlib.Core.Path.{_≡_, refl, sym, ap, ap₂, _∙_}
+use mathlib.Core.List.{List, [], _∷_, _++_, map}
+use Prim.Native.Nat.{ℕ, zero, suc, _+_, _-_, _*_, _/_, _%_, _<_}
+use native.Mathlib.Nat.{div-one}
+use native.Mathlib.Omega.{arith}
+use lib.ListN.{length, getD, length-map}
+use Rattle.ground.specs.Rows.{digits}
+use Rattle.ground.specs.Lists.{listed}
+use Rattle.keys.specs.Keys.{sum, odd, mixed, parityOf, groups, mixedIn, notarized}
+
+pub odd-is : (s : ℕ) → s * 2 + (1 - (s / 64 % 2 + s / 32 % 2 + s / 16 % 2 + s / 8 % 2 + s / 4 % 2 + s / 2 % 2 + s % 2) % 2) ≡ odd s
+unfolding odd digits
+odd-is s =
+    let e : s / 64 % 2 + s / 32 % 2 + s / 16 % 2 + s / 8 % 2 + s / 4 % 2 + s / 2 % 2 + s % 2 ≡ sum (s / 64 % 2 ∷ s / 32 % 2 ∷ s / 16 % 2 ∷ s / 8 % 2 ∷ s / 4 % 2 ∷ s / 2 % 2 ∷ s % 2 ∷ []) = omega arith in
+    rw (e, div-one)
+
+pub parity-is : (b : List ℕ) → length b ≡ 8
+    → parityOf b
+    ≡ odd (getD b 0 0 / 2) ∷ odd (getD b 1 0 / 2) ∷ odd (getD b 2 0 / 2) ∷ odd (getD b 3 0 / 2)
+    ∷ odd (getD b 4 0 / 2) ∷ odd (getD b 5 0 / 2) ∷ odd (getD b 6 0 / 2) ∷ odd (getD b 7 0 / 2) ∷ []
+unfolding parityOf
+parity-is b h = ap (map (λ x. odd (x / 2))) (listed 8 b h)
+
+pub notarized-is : (k : List ℕ) (i j : ℕ) → length k ≡ 8
+    → notarized k i j
+    ≡ mixed (getD k 0 0) (i / 2097152 % 128) ∷ mixed (getD k 1 0) (i / 16384 % 128) ∷ mixed (getD k 2 0) (i / 128 % 128) ∷ mixed (getD k 3 0) (i % 128)
+    ∷ mixed (getD k 4 0) (j / 2097152 % 128) ∷ mixed (getD k 5 0) (j / 16384 % 128) ∷ mixed (getD k 6 0) (j / 128 % 128) ∷ mixed (getD k 7 0) (j % 128) ∷ []
+unfolding notarized mixedIn groups digits
+notarized-is k i j h =
+    ap (λ (l : List ℕ). mixedIn l (groups i ++ groups j)) (listed 8 k h)
+    ∙ rw (div-one i, div-one j)
