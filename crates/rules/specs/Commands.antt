@@ -18,6 +18,7 @@ use Rattle.state.specs.declared.HeldInterchangeKey.{HeldInterchangeKey}
 use Rattle.state.specs.declared.Side.{Side}
 use Rattle.state.specs.declared.Holdings.{Holdings}
 use Rattle.state.specs.declared.Facility.{Facility}
+use Rattle.state.specs.declared.Seat.{Seat}
 use Rattle.state.specs.State.{Bytes, zeros, noVector, bare, find, give, leave, seatOf, shutTo, withPlaces, named, keyAt, rekeyed}
 use Rattle.table.specs.Entries.{fits, freeId, isSome, entryOf, enter, enrolled}
 use Rattle.table.specs.Passwords.{big, same, sealed, authentic, moved}
@@ -129,14 +130,7 @@ pub record Own : Type 0 where
   pub due : Bool
   pub fits : Bool
   pub entry : Option Bytes
-  pub holdings : Option Holdings
-
--- whether the issuer is active, and what he then holds
-abbrev pub active : Own → Bool
-active o = seatOf (o .holdings) .active
-
-abbrev pub held : Own → Holdings
-held o = seatOf (o .holdings) .holdings
+  pub seat : Seat  -- whether the issuer is active, and what he then holds
 
 -- ---- "Refusal numbers": each condition, once
 
@@ -161,10 +155,10 @@ abbrev pub r2 : Own → Test
 r2 o = on 2 (not (o .fits))
 
 abbrev pub r3 : Own → Test
-r3 o = on 3 (not (active o))
+r3 o = on 3 (not (o .seat .active))
 
 abbrev pub r4 : Own → Test
-r4 o = on 4 (active o)
+r4 o = on 4 (o .seat .active)
 
 abbrev pub r5 : ℕ → Test
 r5 f = on 5 (unknown (functionOf f))
@@ -222,12 +216,12 @@ firstOf (r ∷ rs) = test (r .applies) (r .number) (firstOf rs)
 
 -- the modes: 11 is not among ECB's
 unfoldable pub modeRefusals : Mode → ℕ → Bytes → ℕ → Own → List Test
-modeRefusals Ecbe u d room o = r1 u ∷ r3 o ∷ r10 (modeSide Ecbe (held o)) ∷ r12⁸ d ∷ r13 d room ∷ []
-modeRefusals Ecbd u d room o = r1 u ∷ r3 o ∷ r10 (modeSide Ecbd (held o)) ∷ r12⁸ d ∷ r13 d room ∷ []
-modeRefusals Cbce u d room o = r1 u ∷ r3 o ∷ r10 (modeSide Cbce (held o)) ∷ r11 (modeSide Cbce (held o)) ∷ r12⁸ d ∷ r13 d room ∷ []
-modeRefusals Cbcd u d room o = r1 u ∷ r3 o ∷ r10 (modeSide Cbcd (held o)) ∷ r11 (modeSide Cbcd (held o)) ∷ r12⁸ d ∷ r13 d room ∷ []
-modeRefusals Cfbe u d room o = r1 u ∷ r3 o ∷ r10 (modeSide Cfbe (held o)) ∷ r11 (modeSide Cfbe (held o)) ∷ r12⁸ d ∷ r13 d room ∷ []
-modeRefusals Cfbd u d room o = r1 u ∷ r3 o ∷ r10 (modeSide Cfbd (held o)) ∷ r11 (modeSide Cfbd (held o)) ∷ r12⁸ d ∷ r13 d room ∷ []
+modeRefusals Ecbe u d room o = r1 u ∷ r3 o ∷ r10 (modeSide Ecbe (o .seat .holdings)) ∷ r12⁸ d ∷ r13 d room ∷ []
+modeRefusals Ecbd u d room o = r1 u ∷ r3 o ∷ r10 (modeSide Ecbd (o .seat .holdings)) ∷ r12⁸ d ∷ r13 d room ∷ []
+modeRefusals Cbce u d room o = r1 u ∷ r3 o ∷ r10 (modeSide Cbce (o .seat .holdings)) ∷ r11 (modeSide Cbce (o .seat .holdings)) ∷ r12⁸ d ∷ r13 d room ∷ []
+modeRefusals Cbcd u d room o = r1 u ∷ r3 o ∷ r10 (modeSide Cbcd (o .seat .holdings)) ∷ r11 (modeSide Cbcd (o .seat .holdings)) ∷ r12⁸ d ∷ r13 d room ∷ []
+modeRefusals Cfbe u d room o = r1 u ∷ r3 o ∷ r10 (modeSide Cfbe (o .seat .holdings)) ∷ r11 (modeSide Cfbe (o .seat .holdings)) ∷ r12⁸ d ∷ r13 d room ∷ []
+modeRefusals Cfbd u d room o = r1 u ∷ r3 o ∷ r10 (modeSide Cfbd (o .seat .holdings)) ∷ r11 (modeSide Cfbd (o .seat .holdings)) ∷ r12⁸ d ∷ r13 d room ∷ []
 
 -- the same as one list, with 11 asked of CBC and CFB only
 unfoldable pub lacksVector : Mode → Bool → Bool
@@ -244,13 +238,13 @@ refusals u LAU room shut o = r1 u ∷ r3 o ∷ []
 refusals u (CPW password new) room shut o = r1 u ∷ r2 o ∷ r3 o ∷ r6 (keyAt 1 (o .current)) ∷ r7 o ∷ r9 u password o ∷ []
 refusals u (GDK p i bits) room shut o = r1² u p ∷ r3 o ∷ r6 (keyAt i (o .current)) ∷ []
 refusals u (LDK p i f block) room shut o = r1² u p ∷ r3 o ∷ r5² f u p ∷ r6 (keyAt i (o .current)) ∷ []
-refusals u (GIV bits) room shut o = r1 u ∷ r3 o ∷ r10 (held o .transmit) ∷ []
-refusals u (LIV f block) room shut o = r1 u ∷ r3 o ∷ r5 f ∷ r10 (sideFor (functionOf f) (held o)) ∷ []
-refusals u (EIV block) room shut o = r1 u ∷ r3 o ∷ r10 (held o .transmit) ∷ []
+refusals u (GIV bits) room shut o = r1 u ∷ r3 o ∷ r10 (o .seat .holdings .transmit) ∷ []
+refusals u (LIV f block) room shut o = r1 u ∷ r3 o ∷ r5 f ∷ r10 (sideFor (functionOf f) (o .seat .holdings)) ∷ []
+refusals u (EIV block) room shut o = r1 u ∷ r3 o ∷ r10 (o .seat .holdings .transmit) ∷ []
 refusals u (RDK p i f block) room shut o = r1² u p ∷ r3 o ∷ r5² f u p ∷ r6 (keyAt i (o .old)) ∷ r6 (keyAt i (o .current)) ∷ []
 refusals u (mode m d) room shut o = modeRefusals m u d room o
 refusals u (DAUT f d) room shut o =
-    r1 u ∷ r3 o ∷ r5 f ∷ r10 (sideFor (functionOf f) (held o)) ∷ r11 (sideFor (functionOf f) (held o)) ∷ r12 d ∷ []
+    r1 u ∷ r3 o ∷ r5 f ∷ r10 (sideFor (functionOf f) (o .seat .holdings)) ∷ r11 (sideFor (functionOf f) (o .seat .holdings)) ∷ r12 d ∷ []
 
 -- ---- the page's column "effect"
 
@@ -268,16 +262,16 @@ effect u (RAS password) o = keeps bare
 effect u LAU o = leaves
 effect u (CPW password new) o = enters (sealed (keyAt 1 (o .current) .key .0) u new) (sealed-eight (keyAt 1 (o .current) .key .0) u new)
 effect u (GDK p i bits) o = gives 8 (enciphered (notarized (keyAt i (o .current) .key .0) u p) (parityOf bits))
-effect u (LDK p i f block) o = keeps (withKey (functionOf f) (record { 0 = deciphered (pairKey (functionOf f) (keyAt i (o .current) .key .0) u p) block }) (held o))
-effect u (GIV bits) o = gives 8 (enciphered (held o .transmit .key .key .0) (parityOf bits))
-effect u (LIV f block) o = keeps (withVector (functionOf f) (record { 0 = deciphered (sideFor (functionOf f) (held o) .key .key .0) block }) (held o))
-effect u (EIV block) o = gives 8 (enciphered (held o .transmit .key .key .0) block)
+effect u (LDK p i f block) o = keeps (withKey (functionOf f) (record { 0 = deciphered (pairKey (functionOf f) (keyAt i (o .current) .key .0) u p) block }) (o .seat .holdings))
+effect u (GIV bits) o = gives 8 (enciphered (o .seat .holdings .transmit .key .key .0) (parityOf bits))
+effect u (LIV f block) o = keeps (withVector (functionOf f) (record { 0 = deciphered (sideFor (functionOf f) (o .seat .holdings) .key .key .0) block }) (o .seat .holdings))
+effect u (EIV block) o = gives 8 (enciphered (o .seat .holdings .transmit .key .key .0) block)
 effect u (RDK p i f block) o =
     gives 8 (enciphered (pairKey (functionOf f) (keyAt i (o .current) .key .0) u p) (deciphered (pairKey (functionOf f) (keyAt i (o .old) .key .0) u p) block))
 effect u (mode m d) o =
-    writes (modeText m (modeSide m (held o) .key .key .0) (modeSide m (held o) .vector .vector .0) d)
-    (afterMode m (record { 0 = modeVector m (modeSide m (held o) .key .key .0) (modeSide m (held o) .vector .vector .0) d }) (held o))
-effect u (DAUT f d) o = gives 8 (fixity (sideFor (functionOf f) (held o) .key .key .0) (sideFor (functionOf f) (held o) .vector .vector .0) d)
+    writes (modeText m (modeSide m (o .seat .holdings) .key .key .0) (modeSide m (o .seat .holdings) .vector .vector .0) d)
+    (afterMode m (record { 0 = modeVector m (modeSide m (o .seat .holdings) .key .key .0) (modeSide m (o .seat .holdings) .vector .vector .0) d }) (o .seat .holdings))
+effect u (DAUT f d) o = gives 8 (fixity (sideFor (functionOf f) (o .seat .holdings) .key .key .0) (sideFor (functionOf f) (o .seat .holdings) .vector .vector .0) d)
 
 -- refused by the first that holds; none: the effect
 abbrev pub ruled : ℕ → Effect → Effect
@@ -304,7 +298,7 @@ own u w = record {
   due = w .facility .due;
   fits = fits (length (w .table));
   entry = entryOf u (w .table);
-  holdings = find u (w .facility .places);
+  seat = seatOf (find u (w .facility .places));
 }
 
 -- the world after u's command
