@@ -1,3 +1,10 @@
+use mathlib.Core.Path.{_≡_, refl}
+use Prim.Native.Nat.{ℕ}
+use Rattle.state.specs.State.{Bytes, keyAt}
+use Rattle.table.specs.Passwords.{sealed}
+use Rattle.table.proofs.Laws.{sealed-eight}
+use Rattle.rules.specs.Commands.{step, refusals, rule, effect, Own, CPW, enters}
+use borrow.Author.Tests.{eq-eqb, ne-eqb}
 use borrow.Author.Needs.{needs}
 use Rattle.facility.proofs.users.cpw.Statement.{statement}
 use Rattle.facility.proofs.users.cpw.Tie as tie
@@ -14,81 +21,102 @@ use Rattle.table.proofs.passwords.is_authentic.Reads as is-authentic-reads
 use Rattle.table.proofs.passwords.is_big.Reads as is-big-reads
 use Rattle.table.proofs.passwords.seal_password.Reads as seal-password-reads
 
--- src/users.rt:54:9
 seat-of-requires : tie.Need-seat-of-requires
 seat-of-requires c κs = search needs
 
--- src/users.rt:55:9
 current-key-requires : tie.Need-current-key-requires
 current-key-requires c κs = search needs
 
--- src/users.rt:56:9
 is-big-requires : tie.Need-is-big-requires
 is-big-requires c κs = search needs
 
--- src/users.rt:57:15
 is-fit-requires : tie.Need-is-fit-requires
 is-fit-requires c κs = search needs
 
--- src/users.rt:58:15
 is-authentic-requires : tie.Need-is-authentic-requires
 is-authentic-requires c κs = search needs
 
--- src/users.rt:59:56
 first-requires : tie.Need-first-requires
 first-requires c κs = search needs
 
--- src/users.rt:59:40
 first-requires-2 : tie.Need-first-requires-2
 first-requires-2 c κs = search needs
 
--- src/users.rt:59:9
 first-requires-3 : tie.Need-first-requires-3
 first-requires-3 c κs = search needs
 
--- src/users.rt:60:39
 first-requires-4 : tie.Need-first-requires-4
 first-requires-4 c κs = search needs
 
--- src/users.rt:60:26
 first-requires-5 : tie.Need-first-requires-5
 first-requires-5 c κs = search needs
 
--- src/users.rt:60:9
 first-requires-6 : tie.Need-first-requires-6
 first-requires-6 c κs = search needs
 
--- src/users.rt:62:9
 refused-requires : tie.Need-refused-requires
 refused-requires c κs = search needs
 
--- src/users.rt:62:9
 same-length : tie.Need-same-length
 same-length c = search needs
 
--- src/users.rt:62:9
-returns : tie.Need-returns
-returns c = ?
+-- the effect, opened apart from the tests
+does : (u : ℕ) (p new : Bytes) (o : Own)
+    → effect u (CPW p new) o ≡ enters (sealed (keyAt 1 (o .current) .key .0) u new) (sealed-eight (keyAt 1 (o .current) .key .0) u new)
+unfolding effect
+does u p new o = refl
 
--- src/users.rt:64:39
+returns : tie.Need-returns
+unfolding step refusals rule effect
+returns c out = simp (
+  c .refused .ensures,
+  ne-eqb _ _ (c .before .if1 .taken),
+  ← c .before .before .first6 .ensures,
+  ← c .before .before .before .first5 .ensures,
+  ← c .before .before .before .before .first4 .ensures,
+  ← c .before .before .before .before .before .before .first3 .ensures,
+  ← c .before .before .before .before .before .before .before .first2 .ensures,
+  ← c .before .before .before .before .before .before .before .before .first .ensures,
+  ← c .before .before .before .before .before .before .before .before .before .before .is-authentic .ensures,
+  ← c .before .before .before .before .before .before .before .before .before .before .before .before .is-fit .ensures,
+  ← c .before .before .before .before .before .before .before .before .before .before .before .before .before .is-big .ensures,
+  ← c .before .before .before .before .before .before .before .before .before .before .before .before .before .before .current-key .ensures,
+  ← c .before .before .before .before .before .before .before .before .before .before .before .before .before .before .before .seat-of .ensures,
+)
+
 seal-password-requires : tie.Need-seal-password-requires
 seal-password-requires c κs = search needs
 
--- src/users.rt:64:5
 set-entry-requires : tie.Need-set-entry-requires
 set-entry-requires c κs = search needs
 
--- src/users.rt:65:5
 done-requires : tie.Need-done-requires
 done-requires c κs = search needs
 
--- src/users.rt:51:1
 same-length-2 : tie.Need-same-length-2
 same-length-2 c = search needs
 
--- src/users.rt:51:1
 returns-2 : tie.Need-returns-2
-returns-2 c = ?
+unfolding step refusals rule
+returns-2 c out = simp (
+  eq-eqb _ _ (c .before .before .before .before .before .before .if1 .left),
+  ← c .before .before .before .before .before .before .before .first6 .ensures,
+  ← c .before .before .before .before .before .before .before .before .first5 .ensures,
+  ← c .before .before .before .before .before .before .before .before .before .first4 .ensures,
+  ← c .before .before .before .before .before .before .before .before .before .before .before .first3 .ensures,
+  ← c .before .before .before .before .before .before .before .before .before .before .before .before .first2 .ensures,
+  ← c .before .before .before .before .before .before .before .before .before .before .before .before .before .first .ensures,
+  ← c .before .before .before .before .before .before .before .before .before .before .before .before .before .before .before .is-authentic .ensures,
+  ← c .before .before .before .before .before .before .before .before .before .before .before .before .before .before .before .before .before .is-fit .ensures,
+  ← c .before .before .before .before .before .before .before .before .before .before .before .before .before .before .before .before .before .before .is-big .ensures,
+  ← c .before .before .before .before .before .before .before .before .before .before .before .before .before .before .before .before .before .before .before .current-key .ensures,
+  ← c .before .before .before .before .before .before .before .before .before .before .before .before .before .before .before .before .before .before .before .before .seat-of .ensures,
+) (rw does (simp (
+  c .done .ensures,
+  c .before .before .before .set-entry .ensures,
+  ← c .before .before .before .before .seal-password .ensures,
+  ← c .before .before .before .before .before .before .before .before .before .before .before .before .before .before .before .before .before .before .before .current-key .ensures,
+)))
 
 pub cpw-spec : {M : Type 1} → statement M
 cpw-spec =
