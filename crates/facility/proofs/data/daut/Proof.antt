@@ -1,105 +1,97 @@
+use mathlib.Core.Path.{_≡_, refl, sym, ap, _∙_}
+use Prim.Native.Nat.{ℕ}
+use native.Mathlib.Omega.{arith}
+use lib.ListN.{length}
+use Rattle.cipher.specs.Cipher as cipher
+use Rattle.cipher.proofs.Promise.{valued-done}
+use Rattle.state.specs.State.{Bytes}
+use Rattle.rules.specs.Commands.{step, refusals, rule, effect, Own, DAUT, gives, sideFor, functionOf}
+use Rattle.rules.proofs.Laws.{passed, good-length}
+use borrow.Author.Tests.{eq-eqb, ne-eqb}
 use borrow.Author.Needs.{needs}
 use Rattle.facility.proofs.data.daut.Statement.{statement}
 use Rattle.facility.proofs.data.daut.Tie as tie
-use Rattle.facility.proofs.data.daut.Reads as reads
-use Rattle.facility.proofs.data.daut.Lts as lts
-use Rattle.cipher.proofs.fixity.fixity_of.Reads as fixity-of-reads
-use Rattle.rules.proofs.conditions.first.Reads as first-reads
-use Rattle.rules.proofs.conditions.function_of.Reads as function-of-reads
-use Rattle.rules.proofs.conditions.is_bad_length.Reads as is-bad-length-reads
-use Rattle.rules.proofs.conditions.is_unknown.Reads as is-unknown-reads
-use Rattle.rules.proofs.replies.given.Reads as given-reads
-use Rattle.rules.proofs.replies.refused.Reads as refused-reads
-use Rattle.rules.proofs.sides.side_for.Reads as side-for-reads
-use Rattle.state.proofs.places.seat_of.Reads as seat-of-reads
-use Rattle.table.proofs.passwords.is_big.Reads as is-big-reads
 
--- src/data.rt:52:9
-seat-of-requires : tie.Need-seat-of-requires
-seat-of-requires c κs = search needs
+-- the effect, opened apart from the tests
+does : (u f : ℕ) (d : Bytes) (o : Own)
+    → effect u (DAUT f d) o
+    ≡ gives 8 (cipher.fixity (sideFor (functionOf f) (o .seat .holdings) .key .key .0) (sideFor (functionOf f) (o .seat .holdings) .vector .vector .0) d)
+unfolding effect
+does u f d o = refl
 
--- src/data.rt:53:9
-function-of-requires : tie.Need-function-of-requires
-function-of-requires c κs = search needs
-
--- src/data.rt:54:9
-side-for-requires : tie.Need-side-for-requires
-side-for-requires c κs = search needs
-
--- src/data.rt:57:9
-is-big-requires : tie.Need-is-big-requires
-is-big-requires c κs = search needs
-
--- src/data.rt:58:9
-is-unknown-requires : tie.Need-is-unknown-requires
-is-unknown-requires c κs = search needs
-
--- src/data.rt:59:9
-is-bad-length-requires : tie.Need-is-bad-length-requires
-is-bad-length-requires c κs = search needs
-
--- src/data.rt:60:68
-first-requires : tie.Need-first-requires
-first-requires c κs = search needs
-
--- src/data.rt:60:41
-first-requires-2 : tie.Need-first-requires-2
-first-requires-2 c κs = search needs
-
--- src/data.rt:60:9
-first-requires-3 : tie.Need-first-requires-3
-first-requires-3 c κs = search needs
-
--- src/data.rt:61:49
-first-requires-4 : tie.Need-first-requires-4
-first-requires-4 c κs = search needs
-
--- src/data.rt:61:26
-first-requires-5 : tie.Need-first-requires-5
-first-requires-5 c κs = search needs
-
--- src/data.rt:61:9
-first-requires-6 : tie.Need-first-requires-6
-first-requires-6 c κs = search needs
-
--- src/data.rt:63:9
-refused-requires : tie.Need-refused-requires
-refused-requires c κs = search needs
-
--- src/data.rt:63:9
 returns : tie.Need-returns
-returns c = ?
+unfolding step refusals rule effect
+returns c t out = simp (
+  c .refused .ensures,
+  ne-eqb _ _ (c .before .if1 .taken),
+  ← c .before .before .first6 .ensures,
+  ← c .before .before .before .first5 .ensures,
+  ← c .before .before .before .before .first4 .ensures,
+  ← c .before .before .before .before .before .before .first3 .ensures,
+  ← c .before .before .before .before .before .before .before .first2 .ensures,
+  ← c .before .before .before .before .before .before .before .before .first .ensures,
+  ← c .before .before .before .before .before .before .before .before .before .before .before .is-bad-length .ensures,
+  ← c .before .before .before .before .before .before .before .before .before .before .before .before .is-unknown .ensures,
+  ← c .before .before .before .before .before .before .before .before .before .before .before .before .before .is-big .ensures,
+  ← c .before .before .before .before .before .before .before .before .before .before .before .before .before .before .before .before .side-for .ensures,
+  ← c .before .before .before .before .before .before .before .before .before .before .before .before .before .before .before .before .before .function-of .ensures,
+  ← c .before .before .before .before .before .before .before .before .before .before .before .before .before .before .before .before .before .before .seat-of .ensures,
+)
 
--- src/data.rt:65:9
-fixity-of-requires : tie.Need-fixity-of-requires
-fixity-of-requires c κs = search needs
-
--- src/data.rt:67:5
-given-requires : tie.Need-given-requires
-given-requires c κs = search needs
-
--- src/data.rt:49:1
 returns-2 : tie.Need-returns-2
-returns-2 c = ?
+unfolding step refusals rule
+returns-2 c t out =
+    let a = c .before .before .before .before .before .before .before .before .before .before .before .before .before .before .before .before .before .before .before .before .before .before .args in
+    let p1 = passed _ _ _ _ (c .before .before .before .before .first6 .ensures) (c .before .before .before .if1 .left) (λ q. omega arith) in
+    let p3 = passed _ _ _ _ (c .before .before .before .before .before .first5 .ensures) (p1 .1) (λ q. omega arith) in
+    let p5 = passed _ _ _ _ (c .before .before .before .before .before .before .first4 .ensures) (p3 .1) (λ q. omega arith) in
+    let p10 = passed _ _ _ _ (c .before .before .before .before .before .before .before .before .first3 .ensures) (p5 .1) (λ q. omega arith) in
+    let p11 = passed _ _ _ _ (c .before .before .before .before .before .before .before .before .before .first2 .ensures) (p10 .1) (λ q. omega arith) in
+    let p12 = passed _ _ _ _ (c .before .before .before .before .before .before .before .before .before .before .first .ensures) (p11 .1) (λ q. omega arith) in
+    let some : (length (a .plain .now) ≡ 0 → ⊥) = good-length (length (a .plain .now)) (sym (c .before .before .before .before .before .before .before .before .before .before .before .before .before .is-bad-length .ensures) ∙ p12 .0) in
+    let side = c .before .before .before .before .before .before .before .before .before .before .before .before .before .before .before .before .before .before .side-for .result in
+    let value : c .before .before .fixity-of .result .value ≡ cipher.fixity (side .key .key .0) (side .vector .vector .0) (a .plain .now) =
+    ap (λ (v : cipher.Value). v .value) (c .before .before .fixity-of .ensures ∙ valued-done (side .key .key .0) (side .vector .vector .0) (a .plain .now) some) in
+    simp (
+  eq-eqb _ _ (c .before .before .before .if1 .left),
+  ← c .before .before .before .before .first6 .ensures,
+  ← c .before .before .before .before .before .first5 .ensures,
+  ← c .before .before .before .before .before .before .first4 .ensures,
+  ← c .before .before .before .before .before .before .before .before .first3 .ensures,
+  ← c .before .before .before .before .before .before .before .before .before .first2 .ensures,
+  ← c .before .before .before .before .before .before .before .before .before .before .first .ensures,
+  ← c .before .before .before .before .before .before .before .before .before .before .before .before .before .is-bad-length .ensures,
+  ← c .before .before .before .before .before .before .before .before .before .before .before .before .before .before .is-unknown .ensures,
+  ← c .before .before .before .before .before .before .before .before .before .before .before .before .before .before .before .is-big .ensures,
+  ← c .before .before .before .before .before .before .before .before .before .before .before .before .before .before .before .before .before .before .side-for .ensures,
+  ← c .before .before .before .before .before .before .before .before .before .before .before .before .before .before .before .before .before .before .before .function-of .ensures,
+  ← c .before .before .before .before .before .before .before .before .before .before .before .before .before .before .before .before .before .before .before .before .seat-of .ensures,
+) (rw does (simp (
+  c .given .ensures,
+  value,
+  ← c .before .before .before .before .before .before .before .before .before .before .before .before .before .before .before .before .before .before .side-for .ensures,
+  ← c .before .before .before .before .before .before .before .before .before .before .before .before .before .before .before .before .before .before .before .function-of .ensures,
+  ← c .before .before .before .before .before .before .before .before .before .before .before .before .before .before .before .before .before .before .before .before .seat-of .ensures,
+)))
 
 pub daut-spec : {M : Type 1} → statement M
 daut-spec =
     tie.close
     (tie.spec
-    seat-of-requires
-    function-of-requires
-    side-for-requires
-    is-big-requires
-    is-unknown-requires
-    is-bad-length-requires
-    first-requires
-    first-requires-2
-    first-requires-3
-    first-requires-4
-    first-requires-5
-    first-requires-6
-    refused-requires
+    (λ c κs. search needs)
+    (λ c κs. search needs)
+    (λ c κs. search needs)
+    (λ c κs. search needs)
+    (λ c κs. search needs)
+    (λ c κs. search needs)
+    (λ c κs. search needs)
+    (λ c κs. search needs)
+    (λ c κs. search needs)
+    (λ c κs. search needs)
+    (λ c κs. search needs)
+    (λ c κs. search needs)
+    (λ c κs. search needs)
     returns
-    fixity-of-requires
-    given-requires
+    (λ c κs. search needs)
+    (λ c κs. search needs)
     returns-2)

@@ -2,16 +2,6 @@ use Rattle.rules.specs.Commands.{outOfTurn}
 use borrow.Author.Needs.{needs}
 use Rattle.facility.proofs.officer.is_out_of_turn.Statement.{statement}
 use Rattle.facility.proofs.officer.is_out_of_turn.Tie as tie
-use Rattle.facility.proofs.officer.is_out_of_turn.Reads as reads
-use Rattle.facility.proofs.officer.is_out_of_turn.Lts as lts
-use Rattle.state.proofs.interchanges.current_key.Reads as current-key-reads
-use Rattle.state.proofs.interchanges.old_key.Reads as old-key-reads
-
-old-key-requires : tie.Need-old-key-requires
-old-key-requires c κs = search needs
-
-current-key-requires : tie.Need-current-key-requires
-current-key-requires c κs = search needs
 
 returns : tie.Need-returns
 unfolding outOfTurn
@@ -27,4 +17,4 @@ returns-3 c = simp (c .if1 .left, ← c .before .current-key .ensures, ← c .be
 
 pub is-out-of-turn-spec : {M : Type 1} → statement M
 is-out-of-turn-spec =
-    tie.close (tie.spec old-key-requires current-key-requires returns returns-2 returns-3)
+    tie.close (tie.spec (λ c κs. search needs) (λ c κs. search needs) returns returns-2 returns-3)

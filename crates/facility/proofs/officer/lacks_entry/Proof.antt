@@ -2,15 +2,6 @@ use Rattle.rules.specs.Commands.{lacksEntry}
 use borrow.Author.Needs.{needs}
 use Rattle.facility.proofs.officer.lacks_entry.Statement.{statement}
 use Rattle.facility.proofs.officer.lacks_entry.Tie as tie
-use Rattle.facility.proofs.officer.lacks_entry.Reads as reads
-use Rattle.facility.proofs.officer.lacks_entry.Lts as lts
-use Rattle.table.proofs.entries.has_entry.Reads as has-entry-reads
-
-has-entry-requires : tie.Need-has-entry-requires
-has-entry-requires c κs = search needs
-
-has-entry-requires-2 : tie.Need-has-entry-requires-2
-has-entry-requires-2 c κs = search needs
 
 returns : tie.Need-returns
 unfolding lacksEntry
@@ -21,4 +12,4 @@ unfolding lacksEntry
 returns-2 c = simp (c .has-entry2 .ensures, c .before .if1 .left, ← c .before .before .has-entry .ensures)
 
 pub lacks-entry-spec : {M : Type 1} → statement M
-lacks-entry-spec = tie.close (tie.spec has-entry-requires has-entry-requires-2 returns returns-2)
+lacks-entry-spec = tie.close (tie.spec (λ c κs. search needs) (λ c κs. search needs) returns returns-2)

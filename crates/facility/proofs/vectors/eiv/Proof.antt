@@ -3,32 +3,6 @@ use borrow.Author.Tests.{eq-eqb, ne-eqb}
 use borrow.Author.Needs.{needs}
 use Rattle.facility.proofs.vectors.eiv.Statement.{statement}
 use Rattle.facility.proofs.vectors.eiv.Tie as tie
-use Rattle.facility.proofs.vectors.eiv.Reads as reads
-use Rattle.facility.proofs.vectors.eiv.Lts as lts
-use Rattle.cipher.proofs.block.encipher.Reads as encipher-reads
-use Rattle.rules.proofs.conditions.first.Reads as first-reads
-use Rattle.rules.proofs.replies.given.Reads as given-reads
-use Rattle.rules.proofs.replies.refused.Reads as refused-reads
-use Rattle.state.proofs.places.seat_of.Reads as seat-of-reads
-use Rattle.table.proofs.passwords.is_big.Reads as is-big-reads
-
-seat-of-requires : tie.Need-seat-of-requires
-seat-of-requires c κs = search needs
-
-is-big-requires : tie.Need-is-big-requires
-is-big-requires c κs = search needs
-
-first-requires : tie.Need-first-requires
-first-requires c κs = search needs
-
-first-requires-2 : tie.Need-first-requires-2
-first-requires-2 c κs = search needs
-
-first-requires-3 : tie.Need-first-requires-3
-first-requires-3 c κs = search needs
-
-refused-requires : tie.Need-refused-requires
-refused-requires c κs = search needs
 
 returns : tie.Need-returns
 unfolding step refusals rule effect
@@ -41,12 +15,6 @@ returns c t out = simp (
   ← c .before .before .before .before .before .before .before .is-big .ensures,
   ← c .before .before .before .before .before .before .before .before .before .before .seat-of .ensures,
 )
-
-encipher-requires : tie.Need-encipher-requires
-encipher-requires c κs = search needs
-
-given-requires : tie.Need-given-requires
-given-requires c κs = search needs
 
 returns-2 : tie.Need-returns-2
 unfolding step refusals rule effect
@@ -65,13 +33,13 @@ pub eiv-spec : {M : Type 1} → statement M
 eiv-spec =
     tie.close
     (tie.spec
-    seat-of-requires
-    is-big-requires
-    first-requires
-    first-requires-2
-    first-requires-3
-    refused-requires
+    (λ c κs. search needs)
+    (λ c κs. search needs)
+    (λ c κs. search needs)
+    (λ c κs. search needs)
+    (λ c κs. search needs)
+    (λ c κs. search needs)
     returns
-    encipher-requires
-    given-requires
+    (λ c κs. search needs)
+    (λ c κs. search needs)
     returns-2)
