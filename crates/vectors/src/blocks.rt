@@ -1,0 +1,52 @@
+// A table of blocks, its rows key, plain block, cipher block. Each row is run in both directions.
+ghost use mathlib.Core.Path.{_≡_};
+ghost use Prim.Native.Nat.{_≤_};
+ghost use Rattle.cipher.specs.Bits.{bytes};
+ghost use Rattle.cipher.specs.Cipher.{enciphered, deciphered};
+ghost use Rattle.vectors.specs.Answers.{one, tallied};
+
+use cipher::block::decipher;
+use cipher::block::encipher;
+use cipher::bytes_of;
+use cipher::keys::DataKey;
+use crate::answers::Tally;
+use crate::answers::judged;
+use crate::report::line;
+
+fn forwards(group: &[u8], key: u64, plain: u64, published: u64) -> u64
+    ensures { λ r. ⌜ (r ≡ one (enciphered (bytes key) (bytes plain)) (bytes published)) × (r ≤ 1) ⌝ }
+{
+    let answer = encipher(DataKey(bytes_of(key)), bytes_of(plain));
+    judged(group, &answer, &bytes_of(published))
+}
+
+fn backwards(group: &[u8], key: u64, cipher: u64, published: u64) -> u64
+    ensures { λ r. ⌜ (r ≡ one (deciphered (bytes key) (bytes cipher)) (bytes published)) × (r ≤ 1) ⌝ }
+{
+    let answer = decipher(DataKey(bytes_of(key)), bytes_of(cipher));
+    judged(group, &answer, &bytes_of(published))
+}
+
+pub fn run(group: &[u8], table: &[u64]) -> Tally
+    ensures { λ r. ⌜ r ≡ tallied (now (table .entry)) ⌝ }
+{
+    let rows = table.len() / 3;
+    let mut enciphered: u64 = 0;
+    let mut deciphered: u64 = 0;
+    let mut i: usize = 0;
+    while i < rows {
+        let key = table[3 * i];
+        let plain = table[3 * i + 1];
+        let cipher = table[3 * i + 2];
+        enciphered += forwards(group, key, plain, cipher);
+        deciphered += backwards(group, key, cipher, plain);
+        i += 1;
+    }
+    let tally = Tally {
+        enciphered,
+        deciphered,
+        wrong: 2 * (rows as u64) - (enciphered + deciphered),
+    };
+    line(group, tally);
+    tally
+}
