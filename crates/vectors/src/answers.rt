@@ -15,6 +15,7 @@ pub struct Tally {
 }
 
 impl Tally {
+    // No sum of this program comes near 2^64.
     pub fn plus(self, other: Tally) -> Tally
         ensures { λ r. ⌜
             (r .enciphered ≡ (self .enciphered + other .enciphered) % 2 ^ 64)
@@ -31,12 +32,12 @@ impl Tally {
 }
 
 // 1 for an answer that is the published one; else 0, and a line that says so.
-pub fn judged(group: &[u8], answer: &[u8], published: &[u8]) -> u64
+pub fn judged(group: &[u8], row: usize, answer: &[u8], published: &[u8]) -> u64
     ensures { λ r. ⌜ (r ≡ one (now (answer .entry)) (now (published .entry))) × (r ≤ 1) ⌝ }
 {
     if same(answer, published) {
         return 1;
     }
-    wrong(group, answer, published);
+    wrong(group, row, answer, published);
     0
 }

@@ -13,18 +13,18 @@ use crate::answers::Tally;
 use crate::answers::judged;
 use crate::report::line;
 
-fn forwards(group: &[u8], key: u64, plain: u64, published: u64) -> u64
+fn forwards(group: &[u8], row: usize, key: u64, plain: u64, published: u64) -> u64
     ensures { λ r. ⌜ (r ≡ one (enciphered (bytes key) (bytes plain)) (bytes published)) × (r ≤ 1) ⌝ }
 {
     let answer = encipher(DataKey(bytes_of(key)), bytes_of(plain));
-    judged(group, &answer, &bytes_of(published))
+    judged(group, row, &answer, &bytes_of(published))
 }
 
-fn backwards(group: &[u8], key: u64, cipher: u64, published: u64) -> u64
+fn backwards(group: &[u8], row: usize, key: u64, cipher: u64, published: u64) -> u64
     ensures { λ r. ⌜ (r ≡ one (deciphered (bytes key) (bytes cipher)) (bytes published)) × (r ≤ 1) ⌝ }
 {
     let answer = decipher(DataKey(bytes_of(key)), bytes_of(cipher));
-    judged(group, &answer, &bytes_of(published))
+    judged(group, row, &answer, &bytes_of(published))
 }
 
 pub fn run(group: &[u8], table: &[u64]) -> Tally
@@ -35,11 +35,12 @@ pub fn run(group: &[u8], table: &[u64]) -> Tally
     let mut deciphered: u64 = 0;
     let mut i: usize = 0;
     while i < rows {
+        let row = i + 1;
         let key = table[3 * i];
         let plain = table[3 * i + 1];
         let cipher = table[3 * i + 2];
-        enciphered += forwards(group, key, plain, cipher);
-        deciphered += backwards(group, key, cipher, plain);
+        enciphered += forwards(group, row, key, plain, cipher);
+        deciphered += backwards(group, row, key, cipher, plain);
         i += 1;
     }
     let tally = Tally {

@@ -22,7 +22,7 @@ fn answered(group: &[u8], key: DataKey, vector: Vector, plain: &[u8], published:
 {
     let f = fixity_of(key, vector, plain);
     let value = f.value;
-    judged(group, &value, &bytes_of(published))
+    judged(group, 1, &value, &bytes_of(published))
 }
 
 // A value is an enciphering; nothing is deciphered.

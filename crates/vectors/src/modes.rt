@@ -37,7 +37,7 @@ fn answered(group: &[u8], mode: Mode, key: DataKey, vector: Vector, text: [u8; 2
 {
     let mut out = [0u8; 24];
     apply(mode, key, vector, &text, &mut out);
-    judged(group, &out, &published)
+    judged(group, 1, &out, &published)
 }
 
 pub fn run(group: &[u8], enciphering: Mode, deciphering: Mode, published: [u64; 3]) -> Tally

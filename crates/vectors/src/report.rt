@@ -26,9 +26,11 @@ fn bytes(s: &[u8]) {
 }
 
 // An answer that is not the published one.
-pub fn wrong(group: &[u8], answer: &[u8], published: &[u8]) {
+pub fn wrong(group: &[u8], row: usize, answer: &[u8], published: &[u8]) {
     text(b"wrong: ");
     text(group);
+    text(b" row ");
+    number(row as u64);
     text(b" gives ");
     bytes(answer);
     text(b" and not ");

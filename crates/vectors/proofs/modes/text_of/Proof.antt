@@ -9,7 +9,10 @@ use Rattle.vectors.proofs.modes.text_of.Statement.{statement}
 use Rattle.vectors.proofs.modes.text_of.Tie as tie
 
 three : (x y z : List ℕ) → List ℕ
-three x y z = getD x 0 0 ∷ getD x 1 0 ∷ getD x 2 0 ∷ getD x 3 0 ∷ getD x 4 0 ∷ getD x 5 0 ∷ getD x 6 0 ∷ getD x 7 0 ∷ getD y 0 0 ∷ getD y 1 0 ∷ getD y 2 0 ∷ getD y 3 0 ∷ getD y 4 0 ∷ getD y 5 0 ∷ getD y 6 0 ∷ getD y 7 0 ∷ getD z 0 0 ∷ getD z 1 0 ∷ getD z 2 0 ∷ getD z 3 0 ∷ getD z 4 0 ∷ getD z 5 0 ∷ getD z 6 0 ∷ getD z 7 0 ∷ []
+three x y z =
+    getD x 0 0 ∷ getD x 1 0 ∷ getD x 2 0 ∷ getD x 3 0 ∷ getD x 4 0 ∷ getD x 5 0 ∷ getD x 6 0 ∷ getD x 7 0 ∷
+    getD y 0 0 ∷ getD y 1 0 ∷ getD y 2 0 ∷ getD y 3 0 ∷ getD y 4 0 ∷ getD y 5 0 ∷ getD y 6 0 ∷ getD y 7 0 ∷
+    getD z 0 0 ∷ getD z 1 0 ∷ getD z 2 0 ∷ getD z 3 0 ∷ getD z 4 0 ∷ getD z 5 0 ∷ getD z 6 0 ∷ getD z 7 0 ∷ []
 
 joined : (x y z : ℕ) {a b c : List ℕ} → a ≡ bytes x → b ≡ bytes y → c ≡ bytes z → three a b c ≡ bytes x ++ (bytes y ++ bytes z)
 unfolding three digits
