@@ -1,4 +1,4 @@
-// A table of blocks, its rows key, plain block, cipher block. Each row is run in both directions.
+// Tables of blocks, their rows key, plain block, cipher block. Each row is run in both directions.
 ghost use mathlib.Core.Path.{_≡_};
 ghost use Prim.Native.Nat.{_≤_};
 ghost use Rattle.cipher.specs.Bits.{bytes};
@@ -12,6 +12,10 @@ use cipher::keys::DataKey;
 use crate::answers::Tally;
 use crate::answers::judged;
 use crate::report::line;
+use crate::sp500_20::INITIAL_PERMUTATION;
+use crate::sp500_20::KEY_PERMUTATION;
+use crate::sp500_20::PERMUTATION;
+use crate::sp500_20::SUBSTITUTION;
 
 fn forwards(group: &[u8], row: usize, key: u64, plain: u64, published: u64) -> u64
     ensures { λ r. ⌜ (r ≡ one (enciphered (bytes key) (bytes plain)) (bytes published)) × (r ≤ 1) ⌝ }
@@ -27,7 +31,7 @@ fn backwards(group: &[u8], row: usize, key: u64, cipher: u64, published: u64) ->
     judged(group, row, &answer, &bytes_of(published))
 }
 
-pub fn run(group: &[u8], table: &[u64]) -> Tally
+fn run(group: &[u8], table: &[u64]) -> Tally
     ensures { λ r. ⌜ r ≡ tallied (now (table .entry)) ⌝ }
 {
     let rows = table.len() / 3;
@@ -50,4 +54,29 @@ pub fn run(group: &[u8], table: &[u64]) -> Tally
     };
     line(group, tally);
     tally
+}
+
+// A table is copied into the function that lends it, so each has a function of its own.
+fn initial_permutation() -> Tally {
+    run(b"initial-permutation", &INITIAL_PERMUTATION)
+}
+
+fn key_permutation() -> Tally {
+    run(b"key-permutation", &KEY_PERMUTATION)
+}
+
+fn permutation() -> Tally {
+    run(b"permutation", &PERMUTATION)
+}
+
+fn substitution() -> Tally {
+    run(b"substitution", &SUBSTITUTION)
+}
+
+pub fn all() -> Tally {
+    let a = initial_permutation();
+    let b = key_permutation();
+    let c = permutation();
+    let d = substitution();
+    a.plus(b).plus(c).plus(d)
 }

@@ -8,16 +8,9 @@ mod modes;
 mod report;
 mod sp500_20;
 
-use cipher::modes::Mode;
-
 fn main() {
-    let a = blocks::run(b"initial-permutation", &sp500_20::INITIAL_PERMUTATION);
-    let b = blocks::run(b"key-permutation", &sp500_20::KEY_PERMUTATION);
-    let c = blocks::run(b"permutation", &sp500_20::PERMUTATION);
-    let d = blocks::run(b"substitution", &sp500_20::SUBSTITUTION);
-    let e = modes::run(b"ecb", Mode::Ecbe, Mode::Ecbd, fips81::ECB);
-    let f = modes::run(b"cbc", Mode::Cbce, Mode::Cbcd, fips81::CBC);
-    let g = modes::run(b"cfb64", Mode::Cfbe, Mode::Cfbd, fips81::CFB64);
-    let h = fixity::run(b"fixity");
-    report::line(b"total", a.plus(b).plus(c).plus(d).plus(e).plus(f).plus(g).plus(h));
+    let blocks = blocks::all();
+    let texts = modes::all();
+    let value = fixity::run(b"fixity");
+    report::line(b"total", blocks.plus(texts).plus(value));
 }

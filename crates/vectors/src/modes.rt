@@ -14,6 +14,9 @@ use cipher::modes::Mode;
 use cipher::modes::apply;
 use crate::answers::Tally;
 use crate::answers::judged;
+use crate::fips81::CBC;
+use crate::fips81::CFB64;
+use crate::fips81::ECB;
 use crate::fips81::KEY;
 use crate::fips81::PLAIN;
 use crate::fips81::VECTOR;
@@ -40,7 +43,7 @@ fn answered(group: &[u8], mode: Mode, key: DataKey, vector: Vector, text: [u8; 2
     judged(group, 1, &out, &published)
 }
 
-pub fn run(group: &[u8], enciphering: Mode, deciphering: Mode, published: [u64; 3]) -> Tally
+fn run(group: &[u8], enciphering: Mode, deciphering: Mode, published: [u64; 3]) -> Tally
     ensures { λ r. ⌜ r .enciphered + r .deciphered + r .wrong ≡ 2 ⌝ }
 {
     let key = DataKey(bytes_of(KEY));
@@ -55,4 +58,11 @@ pub fn run(group: &[u8], enciphering: Mode, deciphering: Mode, published: [u64; 
     };
     line(group, tally);
     tally
+}
+
+pub fn all() -> Tally {
+    let ecb = run(b"ecb", Mode::Ecbe, Mode::Ecbd, ECB);
+    let cbc = run(b"cbc", Mode::Cbce, Mode::Cbcd, CBC);
+    let cfb64 = run(b"cfb64", Mode::Cfbe, Mode::Cfbd, CFB64);
+    ecb.plus(cbc).plus(cfb64)
 }
