@@ -59,7 +59,8 @@ fn number_of(verdict: Verdict) -> u8
     }
 }
 
-// The tag's mode over the text, from the vector and into the output. A refusal leaves both as they were.
+// The tag's mode over the text, from the vector and into the output. A refusal (12, 13, or 16 for a tag of no mode)
+// leaves both as they were.
 #[no_mangle]
 pub extern "C" fn door_mode(tag: u8, key: u64, vector: &mut u64, text: &[u8], out: &mut [u8]) -> u8
     ensures { λ r. ⌜ _≡_ {A = Moded} (record { answer = r; vector = now (vector .exit); output = now (out .exit) }) (moded (asked tag) key (now (vector .entry)) (now (text .entry)) (now (out .entry))) ⌝ }
@@ -67,13 +68,20 @@ pub extern "C" fn door_mode(tag: u8, key: u64, vector: &mut u64, text: &[u8], ou
     let Asked::For(mode) = asked_by(tag) else {
         return 16;
     };
-    let applied = apply(mode, DataKey(bytes_of(key)), Vector(bytes_of(*vector)), text, out);
+    let applied = apply(
+        mode,
+        DataKey(bytes_of(key)),
+        Vector(bytes_of(*vector)),
+        text,
+        out,
+    );
     let verdict = applied.verdict;
     let after = applied.vector.0;
     *vector = word_of(after);
     number_of(verdict)
 }
 
+// A record of no bytes is refused by 12, and its value is 0.
 #[no_mangle]
 pub extern "C" fn door_fixity(key: u64, vector: u64, plain: &[u8], value: &mut u64) -> u8
     ensures { λ r. ⌜ _≡_ {A = Fixed} (record { answer = r; value = now (value .exit) }) (fixed (valued (bytes key) (bytes vector) (now (plain .entry)))) ⌝ }

@@ -35,7 +35,14 @@ fn text_of(blocks: [u64; 3]) -> [u8; 24]
     ]
 }
 
-fn answered(group: &[u8], mode: Mode, key: DataKey, vector: Vector, text: [u8; 24], published: [u8; 24]) -> u64
+fn answered(
+    group: &[u8],
+    mode: Mode,
+    key: DataKey,
+    vector: Vector,
+    text: [u8; 24],
+    published: [u8; 24],
+) -> u64
     ensures { λ r. ⌜ (r ≡ one (applied mode (key .0) (vector .0) text (replicate 24 0) .output) published) × (r ≤ 1) ⌝ }
 {
     let mut out = [0u8; 24];

@@ -7,9 +7,10 @@ use Rattle.vectors.proofs.fixity.answered.Tie as tie
 
 returns : tie.Need-returns
 returns c = (
-    c .judged .ensures .0
-    ∙ ap₂ one (ap (λ (v : Value). v .value) (c .before .before .before .before .before .fixity-of .ensures)) (c .before .before .bytes-of .ensures),
-    search needs)
+  c .judged .ensures .0
+      ∙ ap₂ one (ap (λ (v : Value). v .value) (c .before .before .before .before .before .fixity-of .ensures)) (c .before .before .bytes-of .ensures),
+  search needs,
+)
 
 pub answered-spec : {M : Type 1} → statement M
 answered-spec =
