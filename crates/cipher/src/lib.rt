@@ -8,3 +8,6 @@ mod rounds;
 mod schedule;
 mod tables;
 mod words;
+
+pub use words::bytes_of;
+pub use words::word_of;
