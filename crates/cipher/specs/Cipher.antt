@@ -13,7 +13,8 @@ use Rattle.cipher.specs.declared.modes.Verdict.{Verdict}
 use Rattle.cipher.specs.declared.modes.Verdict.the-variants.{Done, BadLength, NoRoom}
 use Rattle.cipher.specs.Bits.{word, bytes}
 use Rattle.cipher.specs.Fips46.{computed, encipher, decipher}
-use Rattle.cipher.specs.Fips81.{given, left, turned, keysFor, blocks, joined, filled, lastBlock}
+use Rattle.cipher.specs.Fips81.{given, left, turned, keysFor, blocks, joined}
+unfoldable pub use Rattle.cipher.specs.Fips81.{filled, lastBlock}
 
 -- eight bytes; a whole number of blocks of bytes
 pub record Octets (b : List ℕ) : Type 0 where
