@@ -1,4 +1,5 @@
--- The cipher's promise: all that a layer above may use of this crate. It opens no definition of `specs/Cipher.antt`; nobody above opens one either.
+-- The cipher's promise: the laws that a layer above may use. What the cipher computes stays shut; the words around it (verdicts, which mode undoes which)
+-- are open.
 use mathlib.Core.Path.{_≡_, refl, sym, ap, ap₂, _∙_}
 use mathlib.Core.List.{List, [], _∷_, _++_, map, reverse, reverse-reverse, append-nil}
 use Prim.Native.Nat.{ℕ, zero, suc, _+_, _-_, _*_, _/_, _%_, _^_, _<_, _≤_}
@@ -13,7 +14,7 @@ use Rattle.cipher.specs.declared.modes.Turn.{Turn}
 use Rattle.cipher.specs.declared.modes.Verdict.the-variants.{Done, BadLength, NoRoom}
 use Rattle.cipher.specs.Bits.{word, bytes}
 use Rattle.cipher.specs.Fips46.{computed, encipher, decipher, KS}
-use Rattle.cipher.specs.Fips81.{turned, keysFor, codebook, chain, unchain, unfeedback, given, left, blocks, joined, filled, lastBlock}
+use Rattle.cipher.specs.Fips81.{turned, keysFor, codebook, chain, unchain, given, left, blocks, joined, filled, lastBlock}
 use Rattle.cipher.specs.Cipher.{Octets, Whole, Way, ECB, CBC, CFB, enciphering, deciphering, vectorAfter, enciphered, deciphered, modeText, modeVector, fixity, onto, applied, ruled, fitting, valued, enciphered-means, deciphered-means, modeText-means, modeVector-means, fixity-means}
 use Rattle.cipher.proofs.Undoing.{computed-lt, computed-back}
 use Rattle.cipher.proofs.Parity.{KS-parity}
@@ -154,7 +155,7 @@ module _ (m : Mode) (k v t : List ℕ) (h : 8 ≤ length t) where
       ∙ ap (λ (l : List ℕ). lastBlock (joined l)) (sym (blocks-first t h))
       ∙ ap lastBlock (joined-blocks t u)
 
--- of CBC enciphering that needs no premise but a block
+-- CBC enciphering: no premise but that there is a block
 chain-after : (k v t : List ℕ) → 8 ≤ length t → modeVector Cbce k v t ≡ lastBlock (modeText Cbce k v t)
 unfolding turned chain
 chain-after k v t h =
@@ -192,19 +193,62 @@ pub modeVector-none : (m : Mode) (k v : List ℕ) → Octets v → modeVector m 
 unfolding left
 modeVector-none m k v o = modeVector-means m k v [] ∙ ap (λ (l : List ℕ). bytes (left (turnOf m k) (word v) l)) (blocks-none [] (omega arith)) ∙ bytes-word v o
 
--- CFB deciphers a block by the enciphered vector
-pub modeText-feedback : (k v c : List ℕ) → Octets v → Octets c → modeText Cfbd k v c ≡ bytes (bitXor (word c) (word (enciphered k v)))
-unfolding turned keysFor given joined encipher
-modeText-feedback k v c o p =
-    let l : length c ≡ 8 = p .eight in
-    let g : ℕ → ℕ = computed (KS (word k)) in
-    modeText-means Cfbd k v c
-    ∙ ap (λ (xs : List ℕ). joined (given (unfeedback 64 g) (word v) xs)) (blocks-one c l)
-    ∙ append-nil (bytes (unfeedback 64 g (word v) (word c) .gives))
-    ∙ ap (λ (z : Turn). bytes (z .gives)) (unfeedback-64 g (word v) (word c) (block-lt c p))
-    ∙ ap (λ (y : ℕ). bytes (bitXor (word c) y)) (sym (ap word (enciphered-means k v) ∙ word-bytes (g (word v)) (computed-lt (KS (word k)) (word v))))
+-- ---- one block by each mode, in terms of `enciphered` and `deciphered`
 
--- a key's last bits play no part in any mode
+-- whatever the mode: what it gives for the one block
+one-block : (m : Mode) (k v b : List ℕ) → Octets b → modeText m k v b ≡ bytes (turnOf m k (word v) (word b) .gives)
+unfolding given joined
+one-block m k v b o =
+    modeText-means m k v b
+    ∙ ap (λ (xs : List ℕ). joined (given (turnOf m k) (word v) xs)) (blocks-one b (o .eight))
+    ∙ append-nil (bytes (turnOf m k (word v) (word b) .gives))
+
+-- ECB: the vector plays no part
+pub modeText-ecbe : (k v b : List ℕ) → Octets b → modeText Ecbe k v b ≡ enciphered k b
+unfolding turned keysFor codebook encipher
+modeText-ecbe k v b o = one-block Ecbe k v b o ∙ sym (enciphered-means k b)
+
+pub modeText-ecbd : (k v b : List ℕ) → Octets b → modeText Ecbd k v b ≡ deciphered k b
+unfolding turned keysFor codebook decipher
+modeText-ecbd k v b o = one-block Ecbd k v b o ∙ sym (deciphered-means k b)
+
+-- the exclusive or of two blocks
+abbrev pub _⊕_ : List ℕ → List ℕ → List ℕ
+_⊕_ a b = bytes (bitXor (word a) (word b))
+
+pub modeText-cbce : (k v b : List ℕ) → Octets v → Octets b → modeText Cbce k v b ≡ enciphered k (_⊕_ b v)
+unfolding turned keysFor chain encipher
+modeText-cbce k v b o p =
+    one-block Cbce k v b p
+    ∙ ap (λ (x : ℕ). bytes (computed (KS (word k)) x)) (sym (word-bytes (bitXor (word b) (word v)) (xor-lt 64 (word b) (word v) (block-lt b p) (block-lt v o))))
+    ∙ sym (enciphered-means k (_⊕_ b v))
+
+pub modeText-cbcd : (k v b : List ℕ) → Octets b → modeText Cbcd k v b ≡ _⊕_ (deciphered k b) v
+unfolding turned keysFor unchain decipher
+modeText-cbcd k v b o =
+    one-block Cbcd k v b o
+    ∙ ap (λ (x : ℕ). bytes (bitXor x (word v))) (sym (ap word (deciphered-means k b) ∙ word-bytes (computed (reverse (KS (word k))) (word b)) (computed-lt (reverse (KS (word k))) (word b))))
+
+-- CFB, both ways, by the enciphered vector
+the-pad : (k v : List ℕ) → word (enciphered k v) ≡ computed (KS (word k)) (word v)
+unfolding encipher
+the-pad k v = ap word (enciphered-means k v) ∙ word-bytes (computed (KS (word k)) (word v)) (computed-lt (KS (word k)) (word v))
+
+pub modeText-cfbe : (k v b : List ℕ) → Octets b → modeText Cfbe k v b ≡ _⊕_ b (enciphered k v)
+unfolding turned keysFor
+modeText-cfbe k v b o =
+    one-block Cfbe k v b o
+    ∙ ap (λ (z : Turn). bytes (z .gives)) (feedback-64 (computed (KS (word k))) (word v) (word b) (block-lt b o) (computed-lt (KS (word k)) (word v)))
+    ∙ ap (λ (y : ℕ). bytes (bitXor (word b) y)) (sym (the-pad k v))
+
+pub modeText-cfbd : (k v b : List ℕ) → Octets b → modeText Cfbd k v b ≡ _⊕_ b (enciphered k v)
+unfolding turned keysFor
+modeText-cfbd k v b o =
+    one-block Cfbd k v b o
+    ∙ ap (λ (z : Turn). bytes (z .gives)) (unfeedback-64 (computed (KS (word k))) (word v) (word b) (block-lt b o))
+    ∙ ap (λ (y : ℕ). bytes (bitXor (word b) y)) (sym (the-pad k v))
+
+-- nor does the last bit of each byte of a key play a part in any mode
 module _ (k k′ : List ℕ) (o : Octets k) (o′ : Octets k′) (e : map (λ (b : ℕ). b / 2) k ≡ map (λ (b : ℕ). b / 2) k′) (v t : List ℕ) where
   keys-parity : (m : Mode) → keysFor m (word k) ≡ keysFor m (word k′)
   unfolding keysFor

@@ -1,5 +1,5 @@
--- What the contracts of this crate cite. The definitions are shut: a layer above knows them by the laws of `proofs/Promise.antt` alone,
--- and only this crate's own proofs use the equations `..-means`.
+-- What the contracts of this crate cite. What the cipher computes (`enciphered`, `deciphered`, `modeText`, `modeVector`, `fixity`) is shut: a layer above
+-- knows it by the laws of `proofs/Promise.antt` alone, and only this crate's own proofs use the equations `..-means` (`tests/shut` holds to that).
 use mathlib.Core.Path.{_≡_, refl}
 use mathlib.Core.Bool.{cond}
 use mathlib.Core.List.{List, _++_}
@@ -45,7 +45,7 @@ modeVector m k v t = bytes (left (turned m (computed (keysFor m (word k)))) (wor
 pub fixity : List ℕ → List ℕ → List ℕ → List ℕ
 fixity k v t = lastBlock (modeText Cbce k v (filled t))
 
--- each mode's two directions
+-- the three modes, and the two directions of each
 pub data Way : Type 0 where
   ECB CBC CFB : Way
 
@@ -59,7 +59,7 @@ deciphering ECB = Ecbd
 deciphering CBC = Cbcd
 deciphering CFB = Cfbd
 
--- the vector after a text t that became the text c: the last cipher block, which E gives and D takes; ECB has none
+-- the vector after a text t that became the text c: the last cipher block, which E gives and D takes; ECB leaves the vector
 unfoldable pub vectorAfter : Mode → (v t c : List ℕ) → List ℕ
 vectorAfter Ecbe v t c = v
 vectorAfter Ecbd v t c = v
@@ -70,7 +70,7 @@ vectorAfter Cfbd v t c = lastBlock t
 
 -- ---- what the operations answer and leave
 
--- the page's numbers
+-- the page's numbers. Its limits of 1 and 32768 bytes are the commands', and are tested there, before a mode is asked
 unfoldable pub number : Verdict → ℕ
 number Done = 0
 number BadLength = 12

@@ -22,14 +22,15 @@ chain g v x = record { gives = g (bitXor x v); leaves = g (bitXor x v) }
 unfoldable pub unchain : (ℕ → ℕ) → ℕ → ℕ → Turn
 unchain g v x = record { gives = bitXor (g x) v; leaves = x }
 
--- cipher feedback of w bits: the w leftmost bits of the output block are added to the unit of text
+-- cipher feedback of w bits: the w leftmost bits of the output block
 unfoldable pub pad : ℕ → (ℕ → ℕ) → ℕ → ℕ
 pad w g v = g v / 2 ^ (64 - w)
 
--- and the unit of cipher text comes into the input block at its right
+-- the input block after a unit of cipher text has come in at its right
 unfoldable pub fed : ℕ → ℕ → ℕ → ℕ
 fed w v c = (v * 2 ^ w + c) % 2 ^ 64
 
+-- the unit of text and those w bits, exclusive-ored, are the unit of cipher text; it is fed back
 unfoldable pub feedback : ℕ → (ℕ → ℕ) → ℕ → ℕ → Turn
 feedback w g v x = record { gives = bitXor x (pad w g v); leaves = fed w v (bitXor x (pad w g v)) }
 
@@ -72,6 +73,7 @@ unfoldable pub cut : ℕ → List ℕ → List ℕ
 cut zero t = []
 cut (suc n) t = word (take 8 t) ∷ cut n (drop 8 t)
 
+-- the whole blocks of a text; a remainder is left out
 unfoldable pub blocks : List ℕ → List ℕ
 blocks t = cut (length t / 8) t
 

@@ -1,4 +1,4 @@
-// The fixity value of a record, FIPS PUB 113 with the whole of the last block.
+// The fixity value of a record: FIPS PUB 113, from a vector where that starts from zero, and with the whole of the last block.
 ghost use mathlib.Core.Path.{_≡_};
 ghost use Rattle.cipher.specs.Fips46.{computed};
 ghost use Rattle.cipher.specs.Fips81.{chain, left, blocks, filled};

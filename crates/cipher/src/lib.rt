@@ -1,5 +1,5 @@
 // The data encryption standard (FIPS PUB 46) and its modes of operation (FIPS PUB 81, FIPS PUB 113).
-// What a layer above may know of it is `proofs/Promise.antt`, and nothing else.
+// A layer above knows it by its contracts and by the laws of `proofs/Promise.antt`.
 pub mod block;
 pub mod fixity;
 pub mod keys;

@@ -58,10 +58,10 @@ fn turn_of(mode: Mode, keys: &[u64], vector: u64, block: u64) -> Turn
             leaves: vector,
         },
         Mode::Cbce => {
-            let c = compute(keys, block ^ vector);
+            let enciphered = compute(keys, block ^ vector);
             Turn {
-                gives: c,
-                leaves: c,
+                gives: enciphered,
+                leaves: enciphered,
             }
         }
         Mode::Cbcd => Turn {
@@ -69,10 +69,10 @@ fn turn_of(mode: Mode, keys: &[u64], vector: u64, block: u64) -> Turn
             leaves: block,
         },
         Mode::Cfbe => {
-            let c = block ^ compute(keys, vector);
+            let fed_back = block ^ compute(keys, vector);
             Turn {
-                gives: c,
-                leaves: c,
+                gives: fed_back,
+                leaves: fed_back,
             }
         }
         Mode::Cfbd => Turn {

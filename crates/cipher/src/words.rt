@@ -51,7 +51,7 @@ pub fn first_block(s: &[u8]) -> u64
     x
 }
 
-// The eight bytes of `s` from `at` on, as a word.
+// The eight bytes of `s` from `at` on, as a word; where the end comes first, zero bytes on the right.
 pub fn block_at(s: &[u8], at: usize) -> u64
     requires { ⌜ at ≤ length (now s) ⌝ }
     ensures { λ r. ⌜ r ≡ word (padded 8 (drop at (now (s .entry)))) ⌝ }

@@ -1,4 +1,3 @@
--- `cipher::permute` meets its contract.
 use mathlib.Core.List.{map}
 use mathlib.Core.Path.{_≡_, refl, sym, _∙_}
 use Prim.Native.Nat.{_+_, _*_, _^_, _≤_, _<_, _-_}
