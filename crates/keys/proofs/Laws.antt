@@ -6,7 +6,9 @@ use native.Mathlib.Nat.{div-one}
 use native.Mathlib.Omega.{arith}
 use lib.ListN.{length, getD, length-map}
 use Rattle.ground.specs.Rows.{digits}
-use Rattle.ground.specs.Lists.{listed}
+use lib.Dec.{lit<}
+use Rattle.ground.specs.Lists.{listed, Below}
+use Rattle.cipher.specs.Cipher.{Octets}
 use Rattle.keys.specs.Keys.{sum, odd, mixed, parityOf, groups, mixedIn, notarized}
 
 pub odd-is : (s : ℕ) → s * 2 + (1 - (s / 64 % 2 + s / 32 % 2 + s / 16 % 2 + s / 8 % 2 + s / 4 % 2 + s / 2 % 2 + s % 2) % 2) ≡ odd s
@@ -30,3 +32,21 @@ unfolding notarized mixedIn groups digits
 notarized-is k i j h =
     ap (λ (l : List ℕ). mixedIn l (groups i ++ groups j)) (listed 8 k h)
     ∙ rw (div-one i, div-one j)
+
+-- ---- a key with its parity set is eight bytes
+
+odd-lt : (s : ℕ) → s < 128 → odd s < 256
+unfolding odd
+odd-lt s h = omega arith
+
+half-lt : (x : ℕ) → x < 256 → x / 2 < 128
+half-lt x h = omega arith
+
+map-below : (b : List ℕ) → Below 256 b → Below 256 (map (λ x. odd (x / 2)) b)
+map-below [] h i = lit< tt
+map-below (x ∷ xs) h zero = odd-lt (x / 2) (half-lt x (h 0))
+map-below (x ∷ xs) h (suc i) = map-below xs (λ j. h (suc j)) i
+
+pub parity-octets : (b : List ℕ) → Octets b → Octets (parityOf b)
+unfolding parityOf
+parity-octets b o = record { eight = length-map b (λ x. odd (x / 2)) ∙ o .eight; small = map-below b (o .small) }

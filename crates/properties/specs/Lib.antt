@@ -1,0 +1,4 @@
+pub mod Determined
+pub mod Demand1
+pub mod Steps
+pub mod Demand2

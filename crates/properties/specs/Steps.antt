@@ -1,0 +1,85 @@
+-- A user's command that is not refused: its conditions all fail, and its step is its effect.
+use mathlib.Core.Path.{_≡_, refl, sym, ap, _∙_, subst}
+use mathlib.Core.Bool.{Bool, true, false, cond, not, false≢true, true≢false}
+use mathlib.Core.Option.{Option, none, some}
+use mathlib.Core.List.{List, [], _∷_}
+use Prim.Native.Nat.{ℕ}
+use native.Mathlib.Omega.{arith}
+use lib.Dec.{eqb}
+use lib.ListN.{length}
+use borrow.Author.Tests.{eqb-true, eqb-false, eq-eqb}
+use Rattle.ground.specs.Search.{byTest}
+use Rattle.state.specs.declared.Holdings.{Holdings}
+use Rattle.state.specs.declared.Place.{Place}
+use Rattle.state.specs.State.{Bytes, has, seat, find, put, give}
+use Rattle.table.specs.Passwords.{big}
+use Rattle.rules.specs.Commands.{UserCommand, by, World, Result, result, told, carry, numberOf, refused, test, firstOf, refusals, effect, rule, step, own, shutFor, bigPair}
+use Rattle.rules.proofs.Laws.{passed}
+
+-- the command's own list, in the world w
+abbrev pub listOf : World → ℕ → UserCommand → Bytes → ℕ
+listOf w u c out = firstOf (refusals u c (length out) (shutFor u w) (own u w))
+
+-- it was done: its reply is 0
+abbrev pub Accepted : World → ℕ → UserCommand → Bytes → Type 0
+Accepted w u c out = numberOf (step w (by u c) out .answered .answer) ≡ 0
+
+module _ (w : World) (u : ℕ) (c : UserCommand) (out : Bytes) where
+  pub accepted-first : Accepted w u c out → listOf w u c out ≡ 0
+  unfolding step rule
+  accepted-first h =
+      byTest (eqb (listOf w u c out) 0)
+      (λ e. eqb-true (listOf w u c out) 0 e)
+      (λ e. absurd (eqb-false (listOf w u c out) 0 e (subst (λ (b : Bool). numberOf (told (cond b (effect u c (own u w)) (refused (listOf w u c out))) out .answer) ≡ 0) e h)))
+
+  pub done-step : listOf w u c out ≡ 0 → step w (by u c) out ≡ result (told (effect u c (own u w)) out) (carry u (effect u c (own u w)) w)
+  unfolding step rule
+  done-step z =
+      ap (λ (b : Bool). result (told (cond b (effect u c (own u w)) (refused (listOf w u c out))) out) (carry u (cond b (effect u c (own u w)) (refused (listOf w u c out))) w))
+      (eq-eqb (listOf w u c out) 0 z)
+
+-- the first condition fails, and so do the others
+pub next : (b : Bool) (n m : ℕ) → (n ≡ 0 → ⊥) → test b n m ≡ 0 → (b ≡ false) × (m ≡ 0)
+next b n m h z = passed (test b n m) b n m refl z h
+
+-- and where all fail, the verdict is 0
+pub fails : (b : Bool) (n m : ℕ) → b ≡ false → m ≡ 0 → test b n m ≡ 0
+unfolding test
+fails true n m e z = absurd (true≢false e)
+fails false n m e z = z
+
+pub not-false : (b : Bool) → not b ≡ false → b ≡ true
+not-false true e = refl
+not-false false e = absurd (true≢false e)
+
+pub pair-small : (i j : ℕ) → bigPair i j ≡ false → (big i ≡ false) × (big j ≡ false)
+unfolding bigPair
+pair-small i j h =
+    byTest (big i)
+    (λ e. absurd (true≢false (sym (ap (λ (b : Bool). cond b true (big j)) e) ∙ h)))
+    (λ e. (e, sym (ap (λ (b : Bool). cond b true (big j)) e) ∙ h))
+
+pub small-pair : (i j : ℕ) → big i ≡ false → big j ≡ false → bigPair i j ≡ false
+unfolding bigPair
+small-pair i j a b = ap (λ (x : Bool). cond x true (big j)) a ∙ b
+
+-- ---- what a user holds after it was given to him
+
+has-seat : (u : ℕ) (h : Holdings) → has u (seat u h) ≡ true
+has-seat u h = eq-eqb u u refl
+
+put-own : (u : ℕ) (h h′ : Holdings) (ps : List Place) → find u ps ≡ some h → find u (put u (seat u h′) ps) ≡ some h′
+put-own u h h′ [] e = absurd (let z : _≡_ {A = ℕ} 0 1 = cc in omega arith)
+put-own u h h′ (p ∷ ps) e =
+    byTest (has u p)
+    (λ t.
+    ap (λ (b : Bool). find u (cond b (seat u h′ ∷ ps) (p ∷ put u (seat u h′) ps))) t
+    ∙ ap (λ (b : Bool). cond b (some h′) (find u ps)) (has-seat u h′))
+    (λ f.
+    ap (λ (b : Bool). find u (cond b (seat u h′ ∷ ps) (p ∷ put u (seat u h′) ps))) f
+    ∙ ap (λ (b : Bool). cond b (some (p .holdings)) (find u (put u (seat u h′) ps))) f
+    ∙ put-own u h h′ ps (sym (ap (λ (b : Bool). cond b (some (p .holdings)) (find u ps)) f) ∙ e))
+
+pub give-own : (u : ℕ) (h h′ : Holdings) (ps : List Place) → find u ps ≡ some h → find u (give u h′ ps) ≡ some h′
+unfolding give
+give-own u h h′ ps e = rw e (put-own u h h′ ps e)
