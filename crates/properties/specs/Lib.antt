@@ -5,3 +5,4 @@ pub mod Demand2
 pub mod Moved
 pub mod Texts
 pub mod Single
+pub mod Tables
