@@ -1,4 +1,4 @@
--- No command gives one identifier two places. And where a handed-in state has it so, the first of them counts.
+-- No command gives one identifier two places.
 use mathlib.Core.Path.{_≡_, refl, sym, ap, _∙_, subst}
 use mathlib.Core.Bool.{Bool, true, false, cond, false≢true}
 use mathlib.Core.Option.{Option, none, some}
