@@ -13,7 +13,8 @@ use Rattle.state.specs.declared.Holdings.{Holdings}
 use Rattle.state.specs.declared.Place.{Place}
 use Rattle.state.specs.State.{Bytes, has, seat, find, put, give}
 use Rattle.table.specs.Passwords.{big}
-use Rattle.rules.specs.Commands.{UserCommand, by, World, Result, result, told, carry, numberOf, refused, test, firstOf, refusals, effect, rule, step, own, shutFor, bigPair}
+use Rattle.rules.specs.declared.Answer.the-variants.{Done, Refused}
+use Rattle.rules.specs.Commands.{UserCommand, Command, by, World, Result, result, told, plain, carry, numberOf, refused, test, firstOf, refusals, effect, rule, step, settled, own, shutFor, bigPair}
 use Rattle.rules.proofs.Laws.{passed}
 
 -- the command's own list, in the world w
@@ -37,6 +38,21 @@ module _ (w : World) (u : ℕ) (c : UserCommand) (out : Bytes) where
   done-step z =
       ap (λ (b : Bool). result (told (cond b (effect u c (own u w)) (refused (listOf w u c out))) out) (carry u (cond b (effect u c (own u w)) (refused (listOf w u c out))) w))
       (eq-eqb (listOf w u c out) 0 z)
+
+-- any command was done: its reply is 0; of a user's command that is `Accepted`
+abbrev pub Performed : World → Command → Bytes → Type 0
+Performed w c out = numberOf (step w c out .answered .answer) ≡ 0
+
+-- an officer's command that was done: none of its conditions holds, and the world is as its effect says
+module _ (n : ℕ) (w w′ : World) (out : Bytes) where
+  pub settled-first : numberOf (settled n w out w′ .answered .answer) ≡ 0 → n ≡ 0
+  settled-first h =
+      byTest (eqb n 0)
+      (λ e. eqb-true n 0 e)
+      (λ e. absurd (eqb-false n 0 e (subst (λ (b : Bool). numberOf (cond b (result (plain Done out) w′) (result (plain (Refused n) out) w) .answered .answer) ≡ 0) e h)))
+
+  pub settled-done : n ≡ 0 → settled n w out w′ ≡ result (plain Done out) w′
+  settled-done z = ap (λ (b : Bool). cond b (result (plain Done out) w′) (result (plain (Refused n) out) w)) (eq-eqb n 0 z)
 
 -- the first condition fails, and so do the others
 pub next : (b : Bool) (n m : ℕ) → (n ≡ 0 → ⊥) → test b n m ≡ 0 → (b ≡ false) × (m ≡ 0)
