@@ -7,3 +7,4 @@ pub mod Texts
 pub mod Single
 pub mod Tables
 pub mod Passwords
+pub mod Reencrypted
