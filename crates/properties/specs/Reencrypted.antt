@@ -149,3 +149,98 @@ kept a k u p (some b) q h =
     sym (deciphered-enciphered m (deciphered n b) (deciphered-octets n b)) ∙ ap (deciphered m) e ∙ deciphered-enciphered m p q in
     sym (enciphered-deciphered n b h) ∙ ap (enciphered n) c)
     (λ e. ap (enciphered m) (ap (deciphered n) e ∙ deciphered-enciphered n p q))
+
+-- ---- RPW
+
+-- old key 1
+abbrev pub old1 : World → Bytes
+old1 w = keyAt 1 (w .facility .«old_keys») .key .0
+
+module _ (w : World) (out : Bytes) (done : Performed w RPW out) where
+  -- the world after RPW
+  abbrev pub after : World
+  after = step w RPW out .world
+
+  effected : World
+  effected = over (undue (w .facility)) (moved (old1 w) (key1 w) (w .table))
+
+  first : firstOf (tests RPW w out) ≡ 0
+  unfolding step
+  first = settled-first (firstOf (tests RPW w out)) w _ out done
+
+  after-is : after ≡ effected
+  unfolding step effected
+  after-is = ap (λ r. r .world) (settled-done (firstOf (tests RPW w out)) w _ out first)
+
+  pub rpw-fits : fits (length (w .table)) ≡ true
+  unfolding tests
+  rpw-fits = not-false _ (next _ 2 _ (λ q. omega arith) first .0)
+
+  in-turn : outOfTurn (w .facility) ≡ false
+  unfolding tests
+  in-turn = next _ 7 0 (λ q. omega arith) (next _ 2 _ (λ q. omega arith) first .1) .0
+
+  -- old key 1 was there, and current key 1
+  pub rpw-keys : (keyAt 1 (w .facility .«old_keys») .present ≡ true) × (keyAt 1 (w .facility .«current_keys») .present ≡ true)
+  unfolding outOfTurn
+  rpw-keys = both (w .facility .due) (keyAt 1 (w .facility .«old_keys») .present) (keyAt 1 (w .facility .«current_keys») .present) in-turn
+    where
+      both : (d a b : Bool) → cond d (cond a (not b) true) true ≡ false → (a ≡ true) × (b ≡ true)
+      both true true b h = (refl, not-false b h)
+      both true false b h = absurd (true≢false h)
+      both false a b h = absurd (true≢false h)
+
+  -- a user authenticates under the new key exactly if he did under the old
+  pub rpw-keeps : Below 256 (w .table) → (u : ℕ) (p : Bytes) → big u ≡ false → Octets p → authenticates after u p ≡ authentic (old1 w) u p (entryOf u (w .table))
+  unfolding effected
+  rpw-keeps bytes u p s o =
+      ap (λ (x : World). authenticates x u p) after-is
+      ∙ ap (authentic (key1 w) u p) (moved-entry (old1 w) (key1 w) u (w .table) s)
+      ∙ kept (old1 w) (key1 w) u p (entryOf u (w .table)) o (held u (w .table) bytes)
+
+  -- RPW once more is answered 7 and alters nothing
+  again : (out′ : Bytes) → step effected RPW out′ ≡ result (plain (Refused 7) out′) effected
+  unfolding step tests effected outOfTurn test
+  again out′ =
+      ap (λ (n : ℕ). settled n effected out′ (over (undue (effected .facility)) (moved (old1 effected) (key1 effected) (effected .table))))
+      (ap (λ (n : ℕ). test (not (fits n)) 2 7) (moved-size (old1 w) (key1 w) (w .table)) ∙ ap (λ (b : Bool). test (not b) 2 7) rpw-fits)
+
+  pub rpw-twice : (out′ : Bytes) → step after RPW out′ ≡ result (plain (Refused 7) out′) after
+  rpw-twice out′ = subst (λ (x : World). step x RPW out′ ≡ result (plain (Refused 7) out′) x) (sym after-is) (again out′)
+
+-- ---- EIK of name 1, then RPW
+
+stored : (l : List HeldInterchangeKey) (x : HeldInterchangeKey) → getD (set l 0 x) 0 pastKeys .present ≡ true → getD (set l 0 x) 0 pastKeys ≡ x
+stored [] x h = absurd (false≢true h)
+stored (y ∷ l) x h = refl
+
+module _ (w : World) (k out out′ : Bytes) (entered : Performed w (EIK 1 k) out) (moves : Performed (step w (EIK 1 k) out .world) RPW out′) where
+  abbrev between : World
+  between = step w (EIK 1 k) out .world
+
+  -- the world after both
+  abbrev pub rekeyedWorld : World
+  rekeyedWorld = step between RPW out′ .world
+
+  eik-first : firstOf (tests (EIK 1 k) w out) ≡ 0
+  unfolding step
+  eik-first = settled-first (firstOf (tests (EIK 1 k) w out)) w _ out entered
+
+  between-is : between ≡ over (keyed 1 k (w .facility)) (w .table)
+  unfolding step
+  between-is = ap (λ r. r .world) (settled-done (firstOf (tests (EIK 1 k) w out)) w _ out eik-first)
+
+  -- the current key became old
+  key-kept : keyAt 1 (between .facility .«old_keys») ≡ keyAt 1 (w .facility .«current_keys»)
+  unfolding keyed rekeyed named keyAt
+  key-kept =
+      ap (λ (x : World). keyAt 1 (x .facility .«old_keys»)) between-is
+      ∙ stored (w .facility .«old_keys») (getD (w .facility .«current_keys») 0 pastKeys)
+      (subst (λ (x : World). keyAt 1 (x .facility .«old_keys») .present ≡ true) between-is (rpw-keys between out′ moves .0))
+
+  -- every user authenticates exactly if he did before
+  pub authenticates-as-before : Below 256 (w .table) → (u : ℕ) (p : Bytes) → big u ≡ false → Octets p → authenticates rekeyedWorld u p ≡ authenticates w u p
+  authenticates-as-before bytes u p s o =
+      let t : between .table ≡ w .table = ap (λ (x : World). x .table) between-is in
+      rpw-keeps between out′ moves (subst (Below 256) (sym t) bytes) u p s o
+      ∙ ap₂ (λ (x : HeldInterchangeKey) (y : Bytes). authentic (x .key .0) u p (entryOf u y)) key-kept t
