@@ -16,13 +16,14 @@ use Rattle.cipher.specs.Cipher.{Octets, enciphered, deciphered}
 use Rattle.cipher.proofs.Promise.{enciphered-octets, deciphered-octets, deciphered-enciphered, enciphered-deciphered}
 use Rattle.keys.specs.Keys.{notarized}
 use Rattle.state.specs.declared.HeldInterchangeKey.{HeldInterchangeKey}
-use Rattle.state.specs.State.{Bytes, pastKeys, named, keyAt, rekeyed, seatOf}
+use Rattle.state.specs.declared.Place.{Place}
+use Rattle.state.specs.State.{Bytes, pastKeys, named, keyAt, rekeyed, find, seatOf, shutTo}
 use Rattle.table.specs.Entries.{fits, idOf, entryIn, entryOf}
 use Rattle.table.specs.Passwords.{big, sealed, same, authentic, movedEntry, movedIn, moved}
 use Rattle.table.proofs.Laws.{moved-twelve}
 use Rattle.rules.specs.declared.Answer.the-variants.{Done, Refused}
 use Rattle.rules.specs.Commands.{RAS, CPW, World, Effect, by, EIK, RPW, test, tests, firstOf, refusals, effect, rule, ruled, told, plain, result, numberOf, step, settled, over, undue, keyed, ofOwn, outOfTurn}
-use Rattle.properties.specs.Steps.{Performed, listOf, settled-first, settled-done, next, not-false}
+use Rattle.properties.specs.Steps.{Performed, reply-first, settled-first, settled-done, next, not-false}
 use Rattle.properties.specs.Passwords.{key1, authenticates, same-own}
 
 -- ---- the same bytes
@@ -210,6 +211,24 @@ module _ (w : World) (out : Bytes) (done : Performed w RPW out) where
 
 -- ---- EIK of name 1, then RPW
 
+-- what the conditions of RAS and CPW look at
+record Sight : Type 0 where
+  fitting : Bool
+  places : List Place
+  key : Bool
+  due : Bool
+  own : Bool
+
+abbrev seen : Bool → List Place → Bool → Bool → Bool → Sight
+seen f ps k d x = record { fitting = f; places = ps; key = k; due = d; own = x }
+
+abbrev sight : World → ℕ → Bytes → Sight
+sight w u p = seen (fits (length (w .table))) (w .facility .places) (keyAt 1 (w .facility .«current_keys») .present) (w .facility .due) (authenticates w u p)
+
+seen-alike : {f f′ : Bool} {ps ps′ : List Place} {k k′ d d′ x x′ : Bool} → f ≡ f′ → ps ≡ ps′ → k ≡ k′ → d ≡ d′ → x ≡ x′ → seen f ps k d x ≡ seen f′ ps′ k′ d′ x′
+seen-alike {f} {f′} {ps} {ps′} {k} {k′} {d} {d′} {x} {x′} a b c e g =
+    ap₂ (λ (y : Bool) (z : List Place). seen y z k d x) a b ∙ ap₂ (λ (y z : Bool). seen f′ ps′ y z x) c e ∙ ap (seen f′ ps′ k′ d′) g
+
 stored : (l : List HeldInterchangeKey) (x : HeldInterchangeKey) → getD (set l 0 x) 0 pastKeys .present ≡ true → getD (set l 0 x) 0 pastKeys ≡ x
 stored [] x h = absurd (false≢true h)
 stored (y ∷ l) x h = refl
@@ -244,3 +263,55 @@ module _ (w : World) (k out out′ : Bytes) (entered : Performed w (EIK 1 k) out
       let t : between .table ≡ w .table = ap (λ (x : World). x .table) between-is in
       rpw-keeps between out′ moves (subst (Below 256) (sym t) bytes) u p s o
       ∙ ap₂ (λ (x : HeldInterchangeKey) (y : Bytes). authentic (x .key .0) u p (entryOf u y)) key-kept t
+
+  -- what RAS and CPW look at is as before
+  places-kept : rekeyedWorld .facility .places ≡ w .facility .places
+  unfolding effected keyed rekeyed
+  places-kept = ap (λ (x : World). x .facility .places) (after-is between out′ moves) ∙ ap (λ (x : World). x .facility .places) between-is
+
+  fits-kept : fits (length (rekeyedWorld .table)) ≡ fits (length (w .table))
+  unfolding effected
+  fits-kept =
+      ap (λ (x : World). fits (length (x .table))) (after-is between out′ moves)
+      ∙ ap fits (moved-size (old1 between) (key1 between) (between .table))
+      ∙ ap (λ (x : World). fits (length (x .table))) between-is
+
+  key-there : keyAt 1 (rekeyedWorld .facility .«current_keys») .present ≡ keyAt 1 (w .facility .«current_keys») .present
+  unfolding effected
+  key-there =
+      ap (λ (x : World). keyAt 1 (x .facility .«current_keys») .present) (after-is between out′ moves)
+      ∙ rpw-keys between out′ moves .1
+      ∙ sym (sym (ap (λ (x : HeldInterchangeKey). x .present) key-kept) ∙ rpw-keys between out′ moves .0)
+
+  not-due : rekeyedWorld .facility .due ≡ w .facility .due
+  unfolding effected tests ofOwn
+  not-due =
+      ap (λ (x : World). x .facility .due) (after-is between out′ moves)
+      ∙ sym (next _ 7 _ (λ q. omega arith) (next _ 6 _ (λ q. omega arith) eik-first .1) .0)
+
+  alike : (u : ℕ) (p : Bytes) → authenticates rekeyedWorld u p ≡ authenticates w u p → sight rekeyedWorld u p ≡ sight w u p
+  alike u p e = seen-alike fits-kept places-kept key-there not-due e
+
+  -- RAS and CPW are answered as before, whoever the user and whatever the password
+  module _ (bytes : Below 256 (w .table)) (u : ℕ) (p out″ : Bytes) (o : Octets p) where
+    -- a list that begins with 1
+    numbered : (F : Sight → ℕ) → test (big u) 1 (F (sight rekeyedWorld u p)) ≡ test (big u) 1 (F (sight w u p))
+    unfolding test
+    numbered F =
+        byTest (big u)
+        (λ e. ap (λ (b : Bool). test b 1 (F (sight rekeyedWorld u p))) e ∙ sym (ap (λ (b : Bool). test b 1 (F (sight w u p))) e))
+        (λ e. ap (λ (x : Sight). test (big u) 1 (F x)) (alike u p (authenticates-as-before bytes u p e o)))
+
+    pub ras-as-before : numberOf (step rekeyedWorld (by u (RAS p)) out″ .answered .answer) ≡ numberOf (step w (by u (RAS p)) out″ .answered .answer)
+    unfolding refusals effect
+    ras-as-before =
+        reply-first rekeyedWorld u (RAS p) out″ refl
+        ∙ numbered (λ x. test (not (x .fitting)) 2 (test (seatOf (find u (x .places)) .active) 4 (test (not (x .key)) 6 (test (x .due) 7 (test (shutTo (find u (x .places)) (x .places)) 8 (test (not (x .own)) 9 0))))))
+        ∙ sym (reply-first w u (RAS p) out″ refl)
+
+    pub cpw-as-before : (new : Bytes) → numberOf (step rekeyedWorld (by u (CPW p new)) out″ .answered .answer) ≡ numberOf (step w (by u (CPW p new)) out″ .answered .answer)
+    unfolding refusals effect
+    cpw-as-before new =
+        reply-first rekeyedWorld u (CPW p new) out″ refl
+        ∙ numbered (λ x. test (not (x .fitting)) 2 (test (not (seatOf (find u (x .places)) .active)) 3 (test (not (x .key)) 6 (test (x .due) 7 (test (not (x .own)) 9 0)))))
+        ∙ sym (reply-first w u (CPW p new) out″ refl)

@@ -39,6 +39,14 @@ module _ (w : World) (u : ℕ) (c : UserCommand) (out : Bytes) where
       ap (λ (b : Bool). result (told (cond b (effect u c (own u w)) (refused (listOf w u c out))) out) (carry u (cond b (effect u c (own u w)) (refused (listOf w u c out))) w))
       (eq-eqb (listOf w u c out) 0 z)
 
+  -- its reply is the first of its list
+  pub reply-first : numberOf (told (effect u c (own u w)) out .answer) ≡ 0 → numberOf (step w (by u c) out .answered .answer) ≡ listOf w u c out
+  unfolding step rule
+  reply-first d =
+      let n = listOf w u c out in
+      let told-as : Bool → ℕ = λ b. numberOf (told (cond b (effect u c (own u w)) (refused n)) out .answer) in
+      byTest (eqb n 0) (λ e. ap told-as e ∙ d ∙ sym (eqb-true n 0 e)) (λ e. ap told-as e)
+
 -- any command was done: its reply is 0; of a user's command that is `Accepted`
 abbrev pub Performed : World → Command → Bytes → Type 0
 Performed w c out = numberOf (step w c out .answered .answer) ≡ 0
