@@ -3,7 +3,7 @@ use mathlib.Core.Path.{_≡_, refl, sym, ap, ap₂, _∙_, subst}
 use mathlib.Core.Bool.{Bool, true, false, cond, not, true≢false, false≢true}
 use mathlib.Core.Option.{Option, none, some}
 use mathlib.Core.List.{List, [], _∷_, _++_, append-assoc}
-use Prim.Native.Nat.{ℕ, zero, suc, _+_, _*_, _/_, _≤_}
+use Prim.Native.Nat.{ℕ, zero, suc, _+_, _*_, _/_, _≤_, _<_}
 use native.Mathlib.Omega.{arith}
 use lib.Dec.{eqb, lit<}
 use lib.ListN.{length, getD, set, take, drop, length-append, length-drop}
@@ -23,7 +23,7 @@ use Rattle.table.specs.Passwords.{big, sealed, same, authentic, movedEntry, mov
 use Rattle.table.proofs.Laws.{moved-twelve}
 use Rattle.rules.specs.declared.Answer.the-variants.{Done, Refused}
 use Rattle.rules.specs.Commands.{RAS, CPW, World, Effect, by, EIK, RPW, test, tests, firstOf, refusals, effect, rule, ruled, told, plain, result, numberOf, step, settled, over, undue, keyed, ofOwn, outOfTurn}
-use Rattle.properties.specs.Steps.{Performed, reply-first, settled-first, settled-done, next, not-false}
+use Rattle.properties.specs.Steps.{Performed, reply-first, settled-first, settled-done, next, fails, not-false}
 use Rattle.properties.specs.Passwords.{key1, authenticates, same-own}
 
 -- ---- the same bytes
@@ -315,3 +315,24 @@ module _ (w : World) (k out out′ : Bytes) (entered : Performed w (EIK 1 k) out
         reply-first rekeyedWorld u (CPW p new) out″ refl
         ∙ numbered (λ x. test (not (x .fitting)) 2 (test (not (seatOf (find u (x .places)) .active)) 3 (test (not (x .key)) 6 (test (x .due) 7 (test (not (x .own)) 9 0)))))
         ∙ sym (reply-first w u (CPW p new) out″ refl)
+
+-- EIK of name 1 where that name already had a current key: it is then the turn of RPW, beside any table that fits (an array of keys is not empty)
+there : (now old : List HeldInterchangeKey) (k : HeldInterchangeKey) → k .present ≡ true → getD now 0 pastKeys .present ≡ true → 0 < length old
+    → (getD (set old 0 (getD now 0 pastKeys)) 0 pastKeys .present ≡ true) × (getD (set now 0 k) 0 pastKeys .present ≡ true)
+there [] old k e h l = absurd (false≢true h)
+there (x ∷ now) [] k e h l = absurd (omega arith)
+there (x ∷ now) (y ∷ old) k e h l = (h, e)
+
+pub rpw-in-turn : (w : World) (k out out′ : Bytes) → Performed w (EIK 1 k) out → keyAt 1 (w .facility .«current_keys») .present ≡ true → fits (length (w .table)) ≡ true
+    → 0 < length (w .facility .«old_keys») → Performed (step w (EIK 1 k) out .world) RPW out′
+unfolding step tests keyed rekeyed named keyAt ofOwn outOfTurn
+rpw-in-turn w k out out′ entered had f l =
+    let z : firstOf (tests (EIK 1 k) w out) ≡ 0 = settled-first (firstOf (tests (EIK 1 k) w out)) w _ out entered in
+    let v : World = over (keyed 1 k (w .facility)) (w .table) in
+    let t = there (w .facility .«current_keys») (w .facility .«old_keys») (record { present = true; key = record { 0 = k } }) refl had l in
+    let turn : outOfTurn (v .facility) ≡ false =
+    ap (λ (d : Bool). cond d (cond (keyAt 1 (v .facility .«old_keys») .present) (not (keyAt 1 (v .facility .«current_keys») .present)) true) true) had
+    ∙ ap₂ (λ (a b : Bool). cond a (not b) true) (t .0) (t .1) in
+    let n : firstOf (tests RPW v out′) ≡ 0 = fails _ 2 _ (ap not f) (fails (outOfTurn (v .facility)) 7 0 turn refl) in
+    subst (λ (x : World). Performed x RPW out′) (sym (ap (λ r. r .world) (settled-done (firstOf (tests (EIK 1 k) w out)) w v out z)))
+    (ap (λ r. numberOf (r .answered .answer)) (settled-done (firstOf (tests RPW v out′)) v _ out′ n))
