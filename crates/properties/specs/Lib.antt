@@ -8,3 +8,4 @@ pub mod Single
 pub mod Tables
 pub mod Passwords
 pub mod Reencrypted
+pub mod Joined
