@@ -7,7 +7,7 @@ use Prim.Native.Nat.{ℕ, _+_, _%_, _≤_, _<_}
 use native.Mathlib.Omega.{arith}
 use lib.Dec.{eqb, ltb}
 use lib.ListN.{length, take, length-append}
-use borrow.Author.Tests.{eqb-true, eq-eqb, ne-eqb, ltb-false}
+use borrow.Author.Tests.{eq-eqb, ne-eqb, le-ltb}
 use Rattle.ground.specs.Search.{byTest}
 use Rattle.ground.specs.Lists.{Below}
 use Rattle.cipher.specs.Cipher.{Octets, Whole, modeText, modeVector, vectorAfter}
@@ -127,3 +127,102 @@ put-twice u a b (p ∷ ps) =
     ∙ ap (λ (x : Bool). cond x (seat u b ∷ put u (seat u a) ps) (p ∷ put u (seat u b) (put u (seat u a) ps))) f
     ∙ ap (λ (l : List Place). p ∷ l) (put-twice u a b ps)
     ∙ sym (ap (λ (x : Bool). cond x (seat u b ∷ ps) (p ∷ put u (seat u b) ps)) f))
+
+-- ---- the length of the joined data
+
+not-bad : (n : ℕ) → badBlocks n ≡ false → badLength n ≡ false
+unfolding badBlocks
+not-bad n h =
+    byTest (badLength n)
+    (λ e. absurd (true≢false (sym (ap (λ (b : Bool). cond b true (not (eqb (n % 8) 0))) e) ∙ h)))
+    (λ e. e)
+
+good : (n : ℕ) → (n ≡ 0 → ⊥) → n ≤ 32768 → n % 8 ≡ 0 → badBlocks n ≡ false
+unfolding badBlocks badLength
+good n z l b = rw (ne-eqb n 0 z, le-ltb 32768 n l, eq-eqb (n % 8) 0 b)
+
+-- ---- two calls, and one
+
+-- the active user u, who holds h, calls the mode m with d, then with e
+module _ (w : World) (u : ℕ) (m : Mode) (d e out₁ out₂ : Bytes) (h : Holdings) (active : find u (w .facility .places) ≡ some h)
+    (o : Octets (modeSide m h .vector .vector .0)) (bytes : Below 256 d)
+    (one : Accepted w u (mode m d) out₁) (two : Accepted (step w (by u (mode m d)) out₁ .world) u (mode m e) out₂) where
+  -- the world between the calls
+  abbrev between : World
+  between = step w (by u (mode m d)) out₁ .world
+
+  -- what the calls wrote
+  abbrev pub wrote₁ : Bytes
+  wrote₁ = take (length d) (step w (by u (mode m d)) out₁ .answered .output)
+
+  abbrev pub wrote₂ : Bytes
+  wrote₂ = take (length e) (step between (by u (mode m e)) out₂ .answered .output)
+
+  first : Conditions w u m d out₁ h active
+  first = conditions w u m d out₁ h active one
+
+  between-is : between ≡ over (withPlaces (w .facility) (give u (held m h d) (w .facility .places))) (w .table)
+  unfolding give
+  between-is = left-world w u m d out₁ h active first ∙ rw active
+
+  still : find u (between .facility .places) ≡ some (held m h d)
+  still = ap (λ (x : World). find u (x .facility .places)) between-is ∙ give-own u h (held m h d) (w .facility .places) active
+
+  second : Conditions between u m e out₂ (held m h d) still
+  second = conditions between u m e out₂ (held m h d) still two
+
+  some-data : length d ≡ 0 → ⊥
+  some-data = good-length (length d) (not-bad (length d) (first .blocks))
+
+  all : Whole d
+  all = record { blocks = whole w u m d out₁ h active one; small = bytes }
+
+  key-is : modeSide m (held m h d) .key .key .0 ≡ modeSide m h .key .key .0
+  key-is = ap (λ k. k .key .0) (key-stays h (vectorOf m h d) m)
+
+  vector-is : modeSide m (held m h d) .vector .vector .0 ≡ vectorOf m h d .0
+  vector-is = vector-left h d all (omega (arith, some-data)) m o
+
+  -- the one call on the joined data is accepted, where that is at most 32768 bytes and the output has room
+  module _ (out : Bytes) (limit : length (d ++ e) ≤ 32768) (room : length (d ++ e) ≤ length out) where
+    third : Conditions w u m (d ++ e) out h active
+    third =
+        let l : length (d ++ e) ≡ length d + length e = length-append d e in
+        let x : length d % 8 ≡ 0 = good-blocks (length d) (first .blocks) in
+        let y : length e % 8 ≡ 0 = good-blocks (length e) (second .blocks) in
+        let z : length (d ++ e) % 8 ≡ 0 = omega arith in
+        record {
+          small = first .small;
+          key = first .key;
+          vector = first .vector;
+          blocks = good (length (d ++ e)) (λ q. some-data (omega arith)) limit z;
+          room = le-ltb (length out) (length (d ++ e)) room;
+        }
+
+    pub joined-accepted : Accepted w u (mode m (d ++ e)) out
+    joined-accepted = accepted w u m (d ++ e) out h active third
+
+    -- it writes what the two calls wrote, joined
+    pub joined-text : take (length (d ++ e)) (step w (by u (mode m (d ++ e))) out .answered .output) ≡ wrote₁ ++ wrote₂
+    unfolding text
+    joined-text =
+        written w u m (d ++ e) out h active joined-accepted
+        ∙ modeText-join m (modeSide m h .key .key .0) (modeSide m h .vector .vector .0) d e o all
+        ∙ sym (ap₂ (λ (x y : Bytes). x ++ y)
+        (written w u m d out₁ h active one)
+        (written between u m e out₂ (held m h d) still two ∙ ap₂ (λ (k v : Bytes). modeText m k v e) key-is vector-is))
+
+    -- and leaves the world that they left
+    held-same : held m (held m h d) e ≡ held m h (d ++ e)
+    held-same =
+        ap₂ (λ (k v : Bytes). afterMode m (record { 0 = modeVector m k v e }) (held m h d)) key-is vector-is
+        ∙ twice h (vectorOf m h d) m _
+        ∙ ap (λ (v : Bytes). afterMode m (record { 0 = v }) h) (sym (modeVector-join m (modeSide m h .key .key .0) (modeSide m h .vector .vector .0) d e o all))
+
+    pub joined-world : step w (by u (mode m (d ++ e))) out .world ≡ step between (by u (mode m e)) out₂ .world
+    joined-world =
+        left-world w u m (d ++ e) out h active third
+        ∙ sym (left-world between u m e out₂ (held m h d) still second
+        ∙ ap (λ (x : World). over (withPlaces (x .facility) (put u (seat u (held m (held m h d) e)) (x .facility .places))) (x .table)) (left-world w u m d out₁ h active first)
+        ∙ ap (λ (l : List Place). over (withPlaces (w .facility) l) (w .table)) (put-twice u (held m h d) (held m (held m h d) e) (w .facility .places))
+        ∙ ap (λ (x : Holdings). over (withPlaces (w .facility) (put u (seat u x) (w .facility .places))) (w .table)) held-same)
