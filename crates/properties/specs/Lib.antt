@@ -9,3 +9,4 @@ pub mod Tables
 pub mod Passwords
 pub mod Reencrypted
 pub mod Joined
+pub mod TwoPlaces
