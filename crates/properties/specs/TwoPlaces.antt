@@ -16,7 +16,8 @@ use Rattle.state.specs.State.{Bytes, has, seat, vacant, find, put, admit, give,
 use Rattle.table.specs.Entries.{enrolled}
 use Rattle.table.specs.Passwords.{big, sealed, moved}
 use Rattle.rules.specs.declared.Answer.the-variants.{Done, Refused}
-use Rattle.rules.specs.Commands.{UserCommand, LAU, Command, by, EIK, IPW, RPW, logout, World, Own, Effect, refused, gives, keeps, leaves, enters, writes, carry, own, shutFor, rule, ruleIn, tests, firstOf, Result, result, told, plain, numberOf, step, stepBy, settled, over, undue, keyed}
+use Rattle.rules.specs.Commands.{UserCommand, LAU, Command, by, EIK, IPW, RPW, logout, World, Own, Effect, refused, gives, keeps, leaves, enters, writes, carry, own, shutFor, refusals, effect, rule, ruleIn, tests, firstOf, Result, result, told, plain, numberOf, step, stepBy, settled, over, undue, keyed}
+use Rattle.properties.specs.Steps.{done-step, fails}
 use Rattle.properties.specs.Single.{has-same, count}
 
 -- ---- the first counts
@@ -163,3 +164,50 @@ module _ (w : World) (u i : ℕ) (h : Holdings) (first : find u (take i (w .faci
   not-altered RPW out =
       officers (firstOf (tests RPW w out)) (over (undue (w .facility)) (moved (keyAt 1 (w .facility .«old_keys») .key .0) (keyAt 1 (w .facility .«current_keys») .key .0) (w .table))) out refl
   not-altered (logout v) out = carried v (ruleIn w v LAU out)
+
+-- ---- logged out of the first, u is in the second
+
+module _ (u : ℕ) (p : Place) (qs : List Place) (second : has u p ≡ true) where
+  here : find u (p ∷ qs) ≡ some (p .holdings)
+  here = ap (λ (b : Bool). cond b (some (p .holdings)) (find u qs)) second
+
+  -- u has no place among ps
+  find-second : (ps : List Place) → count u ps ≡ 0 → find u (ps ++ (p ∷ qs)) ≡ some (p .holdings)
+  find-second [] n = here
+  find-second (a ∷ ps) n =
+      byTest (has u a)
+      (λ t. absurd (let z : suc (count u ps) ≡ 0 = sym (ap (λ (b : Bool). cond b (suc (count u ps)) (count u ps)) t) ∙ n in omega arith))
+      (λ f.
+      ap (λ (b : Bool). cond b (some (a .holdings)) (find u (ps ++ (p ∷ qs)))) f
+      ∙ find-second ps (sym (ap (λ (b : Bool). cond b (suc (count u ps)) (count u ps)) f) ∙ n))
+
+  -- u has one, which is freed
+  find-next : (ps : List Place) → count u ps ≡ 1 → find u (put u vacant (ps ++ (p ∷ qs))) ≡ some (p .holdings)
+  find-next [] n = absurd (omega arith)
+  find-next (a ∷ ps) n =
+      byTest (has u a)
+      (λ t.
+      let z : suc (count u ps) ≡ 1 = sym (ap (λ (b : Bool). cond b (suc (count u ps)) (count u ps)) t) ∙ n in
+      let y : count u ps ≡ 0 = omega arith in
+      ap (λ (b : Bool). find u (cond b (vacant ∷ (ps ++ (p ∷ qs))) (a ∷ put u vacant (ps ++ (p ∷ qs))))) t ∙ find-second ps y)
+      (λ f.
+      ap (λ (b : Bool). find u (cond b (vacant ∷ (ps ++ (p ∷ qs))) (a ∷ put u vacant (ps ++ (p ∷ qs))))) f
+      ∙ ap (λ (b : Bool). cond b (some (a .holdings)) (find u (put u vacant (ps ++ (p ∷ qs))))) f
+      ∙ find-next ps (sym (ap (λ (b : Bool). cond b (suc (count u ps)) (count u ps)) f) ∙ n))
+
+  active : (ps : List Place) → seatOf (find u (ps ++ (p ∷ qs))) .active ≡ true
+  unfolding seatOf
+  active [] = ap (λ (s : Option Holdings). seatOf s .active) here
+  active (a ∷ ps) =
+      byTest (has u a)
+      (λ t. ap (λ (b : Bool). seatOf (cond b (some (a .holdings)) (find u (ps ++ (p ∷ qs)))) .active) t)
+      (λ f. ap (λ (b : Bool). seatOf (cond b (some (a .holdings)) (find u (ps ++ (p ∷ qs)))) .active) f ∙ active ps)
+
+  -- u has one place among ps, and p is u's second
+  pub second-counts : (w : World) (ps : List Place) (out : Bytes) → big u ≡ false → count u ps ≡ 1
+      → let r = step (housing w (ps ++ (p ∷ qs))) (logout u) out in
+      (numberOf (r .answered .answer) ≡ 0) × (find u (r .world .facility .places) ≡ some (p .holdings))
+  unfolding step refusals effect leave
+  second-counts w ps out s n =
+      let d = done-step (housing w (ps ++ (p ∷ qs))) u LAU out (fails (big u) 1 _ s (fails _ 3 0 (ap not (active ps)) refl)) in
+      (ap (λ r. numberOf (r .answered .answer)) d, ap (λ r. find u (r .world .facility .places)) d ∙ find-next ps n)
