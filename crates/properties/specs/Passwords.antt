@@ -1,22 +1,25 @@
 -- "The password of IPW is accepted by RAS and by CPW"; the one that CPW gives is accepted afterwards.
 use mathlib.Core.Path.{_≡_, refl, sym, ap, ap₂, _∙_, subst}
 use mathlib.Core.Bool.{Bool, true, false, cond, not, true≢false, false≢true}
-use mathlib.Core.Option.{Option, none, some}
+use mathlib.Core.Option.{none, some}
 use mathlib.Core.List.{List, [], _∷_}
 use Prim.Native.Nat.{ℕ, _<_}
 use native.Mathlib.Omega.{arith}
-use lib.Dec.{eqb, ltb}
+use lib.Dec.{eqb}
 use lib.ListN.{length}
 use borrow.Author.Tests.{eqb-true, eq-eqb, ltb-false}
 use Rattle.ground.specs.Search.{byTest}
+use Rattle.cipher.specs.Cipher.{Octets, deciphered}
+use Rattle.cipher.proofs.Promise.{deciphered-enciphered}
+use Rattle.keys.specs.Keys.{notarized}
 use Rattle.state.specs.declared.Holdings.{Holdings}
 use Rattle.state.specs.declared.Place.{Place}
 use Rattle.state.specs.State.{Bytes, bare, seat, has, find, allTaken, admit, give, seatOf, shutTo, keyAt}
-use Rattle.table.specs.Entries.{fits, entryOf, enter, enrolled}
+use Rattle.table.specs.Entries.{fits, entryOf, enrolled}
 use Rattle.table.specs.Passwords.{big, sealed, same, authentic}
 use Rattle.table.proofs.Laws.{sealed-eight}
-use Rattle.rules.specs.Commands.{UserCommand, RAS, CPW, World, Command, by, IPW, tests, refusals, effect, numberOf, step, carry, result, told, lacksEntry, shutFor, over, firstOf}
-use Rattle.properties.specs.Steps.{Accepted, Performed, listOf, done-step, settled-first, settled-done, next, fails, not-false}
+use Rattle.rules.specs.Commands.{RAS, CPW, World, by, IPW, tests, refusals, effect, numberOf, step, lacksEntry, over, firstOf}
+use Rattle.properties.specs.Steps.{Performed, listOf, done-step, settled-first, settled-done, next, fails, not-false}
 use Rattle.properties.specs.Tables.{become, enter-size, enter-own, enrolled-size, enrolled-own}
 use Rattle.properties.specs.Demand1.{holds, demand-1}
 
@@ -48,16 +51,34 @@ Inactive u w = find u (w .facility .places) ≡ none
 abbrev pub Room : World → Type 0
 Room w = allTaken (w .facility .places) ≡ false
 
--- ---- what is the same as itself
+-- ---- the same bytes
 
 pub same-own : (a : Bytes) → same a a ≡ true
 unfolding same
 same-own [] = refl
 same-own (x ∷ xs) = ap (λ (b : Bool). cond b (same xs xs) false) (eq-eqb x x refl) ∙ same-own xs
 
+pub same-equal : (a b : Bytes) → same a b ≡ true → a ≡ b
+unfolding same
+same-equal [] [] h = refl
+same-equal [] (y ∷ ys) h = absurd (false≢true h)
+same-equal (x ∷ xs) [] h = absurd (false≢true h)
+same-equal (x ∷ xs) (y ∷ ys) h =
+    byTest (eqb x y)
+    (λ e. ap₂ (λ (z : ℕ) (zs : Bytes). z ∷ zs) (eqb-true x y e) (same-equal xs ys (sym (ap (λ (b : Bool). cond b (same xs ys) false) e) ∙ h)))
+    (λ e. absurd (false≢true (sym (ap (λ (b : Bool). cond b (same xs ys) false) e) ∙ h)))
+
+-- where the password p stands, it authenticates, and no other does
 pub stands-authentic : (w : World) (u : ℕ) (p : Bytes) → Stands w u p → authenticates w u p ≡ true
 unfolding authentic
 stands-authentic w u p s = ap (authentic (key1 w) u p) (s .entry) ∙ same-own (sealed (key1 w) u p)
+
+pub stands-only : (w : World) (u : ℕ) (p q : Bytes) → Stands w u p → Octets p → Octets q → authenticates w u q ≡ true → q ≡ p
+unfolding authentic sealed
+stands-only w u p q s o o′ e =
+    let k = notarized (key1 w) u u in
+    let alike : sealed (key1 w) u p ≡ sealed (key1 w) u q = same-equal _ _ (sym (ap (authentic (key1 w) u q) (s .entry)) ∙ e) in
+    sym (deciphered-enciphered k q o′) ∙ ap (deciphered k) (sym alike) ∙ deciphered-enciphered k p o
 
 small-number : (u : ℕ) → big u ≡ false → u < 4294967295
 unfolding big

@@ -3,17 +3,16 @@ use mathlib.Core.Path.{_≡_, refl, sym, ap, ap₂, _∙_, subst}
 use mathlib.Core.Bool.{Bool, true, false, cond, not, true≢false, false≢true}
 use mathlib.Core.Option.{Option, none, some}
 use mathlib.Core.List.{List, [], _∷_, _++_, append-assoc}
-use Prim.Native.Nat.{ℕ, zero, suc, _+_, _*_, _/_, _≤_, _<_}
+use Prim.Native.Nat.{ℕ, zero, suc, _*_, _/_, _≤_, _<_}
 use native.Mathlib.Omega.{arith}
 use lib.Dec.{eqb, lit<}
 use lib.ListN.{length, getD, set, take, drop, length-append, length-drop}
 use lib.Seq.{take-at, drop-at, length-take-le}
-use borrow.Author.Tests.{eqb-true, eqb-false, eq-eqb}
+use borrow.Author.Tests.{eqb-true}
 use Rattle.ground.specs.Search.{byTest}
 use Rattle.ground.specs.Lists.{Below, below-take, below-drop}
-use Rattle.ground.specs.Rows.{row}
 use Rattle.cipher.specs.Cipher.{Octets, enciphered, deciphered}
-use Rattle.cipher.proofs.Promise.{enciphered-octets, deciphered-octets, deciphered-enciphered, enciphered-deciphered}
+use Rattle.cipher.proofs.Promise.{deciphered-octets, deciphered-enciphered, enciphered-deciphered}
 use Rattle.keys.specs.Keys.{notarized}
 use Rattle.state.specs.declared.HeldInterchangeKey.{HeldInterchangeKey}
 use Rattle.state.specs.declared.Place.{Place}
@@ -21,22 +20,12 @@ use Rattle.state.specs.State.{Bytes, pastKeys, named, keyAt, rekeyed, find, sea
 use Rattle.table.specs.Entries.{fits, idOf, entryIn, entryOf}
 use Rattle.table.specs.Passwords.{big, sealed, same, authentic, movedEntry, movedIn, moved}
 use Rattle.table.proofs.Laws.{moved-twelve}
-use Rattle.rules.specs.declared.Answer.the-variants.{Done, Refused}
-use Rattle.rules.specs.Commands.{RAS, CPW, World, Effect, by, EIK, RPW, test, tests, firstOf, refusals, effect, rule, ruled, told, plain, result, numberOf, step, settled, over, undue, keyed, ofOwn, outOfTurn}
+use Rattle.rules.specs.declared.Answer.the-variants.{Refused}
+use Rattle.rules.specs.Commands.{RAS, CPW, World, by, EIK, RPW, test, tests, firstOf, refusals, effect, plain, result, numberOf, step, settled, over, undue, keyed, ofOwn, outOfTurn}
 use Rattle.properties.specs.Steps.{Performed, reply-first, settled-first, settled-done, next, fails, not-false}
-use Rattle.properties.specs.Passwords.{key1, authenticates, same-own}
+use Rattle.properties.specs.Passwords.{key1, authenticates, same-own, same-equal}
 
 -- ---- the same bytes
-
-same-equal : (a b : Bytes) → same a b ≡ true → a ≡ b
-unfolding same
-same-equal [] [] h = refl
-same-equal [] (y ∷ ys) h = absurd (false≢true h)
-same-equal (x ∷ xs) [] h = absurd (false≢true h)
-same-equal (x ∷ xs) (y ∷ ys) h =
-    byTest (eqb x y)
-    (λ e. ap₂ (λ (z : ℕ) (zs : Bytes). z ∷ zs) (eqb-true x y e) (same-equal xs ys (sym (ap (λ (b : Bool). cond b (same xs ys) false) e) ∙ h)))
-    (λ e. absurd (false≢true (sym (ap (λ (b : Bool). cond b (same xs ys) false) e) ∙ h)))
 
 equal-same : (a b : Bytes) → a ≡ b → same a b ≡ true
 equal-same a b e = subst (λ (c : Bytes). same a c ≡ true) e (same-own a)

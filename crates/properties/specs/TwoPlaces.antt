@@ -1,22 +1,20 @@
 -- "Where a state is handed in that has one identifier in two places, the first of them counts and the other is not altered while the first is there."
-use mathlib.Core.Path.{_≡_, refl, sym, ap, ap₂, _∙_, subst}
-use mathlib.Core.Bool.{Bool, true, false, cond, not, true≢false, false≢true}
+use mathlib.Core.Path.{_≡_, refl, sym, ap, ap₂, _∙_}
+use mathlib.Core.Bool.{Bool, true, false, cond, not, false≢true}
 use mathlib.Core.Option.{Option, none, some}
 use mathlib.Core.List.{List, [], _∷_, _++_}
 use Prim.Native.Nat.{ℕ, zero, suc}
 use native.Mathlib.Omega.{arith}
 use lib.Dec.{eqb}
-use lib.ListN.{length, getD, take}
-use borrow.Author.Tests.{eqb-true}
+use lib.ListN.{getD, take}
 use Rattle.ground.specs.Search.{byTest}
 use Rattle.state.specs.declared.Holdings.{Holdings}
-use Rattle.state.specs.declared.Seat.{Seat}
 use Rattle.state.specs.declared.Place.{Place}
 use Rattle.state.specs.State.{Bytes, has, seat, vacant, find, put, admit, give, giveTo, leave, seatOf, shutTo, withPlaces, keyAt, rekeyed}
 use Rattle.table.specs.Entries.{enrolled}
 use Rattle.table.specs.Passwords.{big, sealed, moved}
 use Rattle.rules.specs.declared.Answer.the-variants.{Done, Refused}
-use Rattle.rules.specs.Commands.{UserCommand, LAU, Command, by, EIK, IPW, RPW, logout, World, Own, Effect, refused, gives, keeps, leaves, enters, writes, carry, own, shutFor, refusals, effect, rule, ruleIn, tests, firstOf, Result, result, told, plain, numberOf, step, stepBy, settled, over, undue, keyed}
+use Rattle.rules.specs.Commands.{UserCommand, LAU, Command, by, EIK, IPW, RPW, logout, World, Own, Effect, refused, gives, keeps, leaves, enters, writes, carry, own, refusals, effect, rule, ruleIn, tests, firstOf, Result, result, told, plain, numberOf, step, stepBy, settled, over, undue, keyed}
 use Rattle.properties.specs.Steps.{done-step, fails}
 use Rattle.properties.specs.Single.{has-same, count}
 
