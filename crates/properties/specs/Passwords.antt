@@ -161,12 +161,11 @@ module _ (w : World) (u : ℕ) (p out : Bytes) (stands : Stands w u p) where
   pub ras-done : Inactive u w → Room w → Performed w (by u (RAS p)) out × Active u bare (step w (by u (RAS p)) out .world) × Stands (step w (by u (RAS p)) out .world) u p
   unfolding effect give
   ras-done i r =
-      let d = done-step w u (RAS p) out (ras-first i r) in
-      (
+      let d = done-step w u (RAS p) out (ras-first i r) in (
         ap (λ x. numberOf (x .answered .answer)) d,
         ap (λ x. find u (x .world .facility .places)) d ∙ rw i (admit-own u bare (w .facility .places) i r),
         subst (λ x. Stands (x .world) u p) (sym d)
-        (record { small = stands .small; table = stands .table; key = stands .key; turn = stands .turn; entry = stands .entry }),
+            (record { small = stands .small; table = stands .table; key = stands .key; turn = stands .turn; entry = stands .entry }),
       )
 
   -- CPW is done where u is active: the new password stands
@@ -186,18 +185,17 @@ module _ (w : World) (u : ℕ) (p out : Bytes) (stands : Stands w u p) where
   cpw-done h new a =
       let d = done-step w u (CPW p new) out (cpw-first h new a) in
       let b = sealed (key1 w) u new in
-      let e = sealed-eight (key1 w) u new in
-      (
+      let e = sealed-eight (key1 w) u new in (
         ap (λ x. numberOf (x .answered .answer)) d,
         ap (λ x. find u (x .world .facility .places)) d ∙ a,
         subst (λ x. Stands (x .world) u new) (sym d)
-        (record {
-          small = stands .small;
-          table = ap fits (enter-size u b (w .table) e) ∙ stands .table;
-          key = stands .key;
-          turn = stands .turn;
-          entry = enter-own u b (w .table) e ∙ ap (become b) (stands .entry);
-        }),
+            (record {
+              small = stands .small;
+              table = ap fits (enter-size u b (w .table) e) ∙ stands .table;
+              key = stands .key;
+              turn = stands .turn;
+              entry = enter-own u b (w .table) e ∙ ap (become b) (stands .entry);
+            }),
       )
 
 -- ---- in a row: IPW, RAS, CPW
