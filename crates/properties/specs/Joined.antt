@@ -21,7 +21,7 @@ use Rattle.state.specs.State.{Bytes, has, seat, find, put, give, seatOf, withPl
 use Rattle.table.specs.Passwords.{big}
 use Rattle.rules.specs.Commands.{World, by, mode, step, over, refusals, effect, numberOf, modeSide, afterMode, withVector, lacksVector, badLength, badBlocks}
 use Rattle.rules.proofs.Laws.{good-length, good-blocks, mode-first}
-use Rattle.properties.specs.Steps.{Accepted, listOf, accepted-first, done-step, next, fails, give-own}
+use Rattle.properties.specs.Steps.{Accepted, listOf, accepted-first, done-step, next, fails, put-own}
 use Rattle.properties.specs.Texts.{whole, text, written}
 
 -- ---- a mode's call
@@ -161,12 +161,8 @@ module _ (w : World) (u : ℕ) (m : Mode) (d e out₁ out₂ : Bytes) (h : Holdi
   first : Conditions w u m d out₁ h active
   first = conditions w u m d out₁ h active one
 
-  between-is : between ≡ over (withPlaces (w .facility) (give u (held m h d) (w .facility .places))) (w .table)
-  unfolding give
-  between-is = left-world w u m d out₁ h active first ∙ rw active
-
   still : find u (between .facility .places) ≡ some (held m h d)
-  still = ap (λ (x : World). find u (x .facility .places)) between-is ∙ give-own u h (held m h d) (w .facility .places) active
+  still = ap (λ (x : World). find u (x .facility .places)) (left-world w u m d out₁ h active first) ∙ put-own u h (held m h d) (w .facility .places) active
 
   second : Conditions between u m e out₂ (held m h d) still
   second = conditions between u m e out₂ (held m h d) still two

@@ -19,9 +19,9 @@ use Rattle.table.specs.Entries.{fits, entryOf, enrolled}
 use Rattle.table.specs.Passwords.{big, sealed, same, authentic}
 use Rattle.table.proofs.Laws.{sealed-eight}
 use Rattle.rules.specs.Commands.{RAS, CPW, World, by, IPW, tests, refusals, effect, numberOf, step, lacksEntry, over, firstOf}
-use Rattle.properties.specs.Steps.{Performed, listOf, done-step, settled-first, settled-done, next, fails, not-false}
+use Rattle.properties.specs.Steps.{Performed, listOf, done-step, settled-first, settled-done, next, fails, not-false, none-not-some}
 use Rattle.properties.specs.Tables.{become, enter-size, enter-own, enrolled-size, enrolled-own}
-use Rattle.properties.specs.Demand1.{holds, demand-1}
+use Rattle.properties.specs.Demand1.{not-given}
 
 -- ---- the words
 
@@ -115,7 +115,7 @@ admit-own u h [] e f = absurd (true≢false f)
 admit-own u h (p ∷ ps) e f =
     byTest (p .taken)
     (λ t. byTest (has u p)
-    (λ m. absurd (let y : _≡_ {A = ℕ} 0 1 = never (sym (ap (λ (b : Bool). cond b (some (p .holdings)) (find u ps)) m) ∙ e) in omega arith))
+    (λ m. absurd (none-not-some (sym e ∙ ap (λ (b : Bool). cond b (some (p .holdings)) (find u ps)) m)))
     (λ m.
     ap (λ (b : Bool). find u (cond b (p ∷ admit (seat u h) ps) (seat u h ∷ ps))) t
     ∙ ap (λ (b : Bool). cond b (some (p .holdings)) (find u (admit (seat u h) ps))) m
@@ -123,9 +123,6 @@ admit-own u h (p ∷ ps) e f =
     (λ t.
     ap (λ (b : Bool). find u (cond b (p ∷ admit (seat u h) ps) (seat u h ∷ ps))) t
     ∙ ap (λ (b : Bool). cond b (some h) (find u ps)) (eq-eqb u u refl))
-  where
-    never : some (p .holdings) ≡ none → _≡_ {A = ℕ} 0 1
-    never q = cc
 
 module _ (w : World) (u : ℕ) (p out : Bytes) (stands : Stands w u p) where
   wrong-no-more : not (authenticates w u p) ≡ false
@@ -134,17 +131,11 @@ module _ (w : World) (u : ℕ) (p out : Bytes) (stands : Stands w u p) where
   -- neither is ever answered 9
   pub ras-not-9 : numberOf (step w (by u (RAS p)) out .answered .answer) ≡ 9 → ⊥
   unfolding tests refusals
-  ras-not-9 e =
-      let l = tests (by u (RAS p)) w out in
-      let held : holds 9 l ≡ true = subst (λ (n : ℕ). holds n l ≡ true) e (demand-1 w (by u (RAS p)) out .lowest .held (λ z. omega arith)) in
-      false≢true (sym (ap (λ (b : Bool). cond b true false) wrong-no-more) ∙ held)
+  ras-not-9 = not-given w (by u (RAS p)) out 9 (λ q. omega arith) (ap (λ (b : Bool). cond b true false) wrong-no-more)
 
   pub cpw-not-9 : (new : Bytes) → numberOf (step w (by u (CPW p new)) out .answered .answer) ≡ 9 → ⊥
   unfolding tests refusals
-  cpw-not-9 new e =
-      let l = tests (by u (CPW p new)) w out in
-      let held : holds 9 l ≡ true = subst (λ (n : ℕ). holds n l ≡ true) e (demand-1 w (by u (CPW p new)) out .lowest .held (λ z. omega arith)) in
-      false≢true (sym (ap (λ (b : Bool). cond b true false) wrong-no-more) ∙ held)
+  cpw-not-9 new = not-given w (by u (CPW p new)) out 9 (λ q. omega arith) (ap (λ (b : Bool). cond b true false) wrong-no-more)
 
   -- RAS is done where u is not active and a place is free: u is then active with nothing loaded, and the password stands
   ras-first : Inactive u w → Room w → listOf w u (RAS p) out ≡ 0
@@ -208,6 +199,11 @@ module _ (w : World) (u : ℕ) (p out : Bytes) (done : Performed w (IPW u p) out
   -- u's entry is the password enciphered under current key 1 notarized with (u, u)
   pub ipw-entry : entryOf u (after .table) ≡ some (sealed (key1 after) u p)
   ipw-entry = ipw-stands w u p out done .entry
+
+  -- with it neither RAS nor CPW is ever answered 9
+  pub never-9 : (new out′ : Bytes)
+      → (numberOf (step after (by u (RAS p)) out′ .answered .answer) ≡ 9 → ⊥) × (numberOf (step after (by u (CPW p new)) out′ .answered .answer) ≡ 9 → ⊥)
+  never-9 new out′ = (ras-not-9 after u p out′ (ipw-stands w u p out done), cpw-not-9 after u p out′ (ipw-stands w u p out done) new)
 
   -- RAS accepts it, where u is not active and a place is free
   pub ras-after-ipw : (out′ : Bytes) → Inactive u after → Room after → Performed after (by u (RAS p)) out′

@@ -49,10 +49,10 @@ module _ (i x r : Bytes) (four : length i ≡ 4) (eight : length x ≡ 8) where
 
 -- the table moved from the key a to the key k
 module _ (a k : Bytes) where
-  -- u's password kept, under the new key
+  -- u's password kept, under the new key; an identifier that is no user's keeps its bytes
   abbrev pub resealed : ℕ → Option Bytes → Option Bytes
   resealed u none = none
-  resealed u (some b) = some (sealed k u (deciphered (notarized a u u) b))
+  resealed u (some b) = some (cond (big u) b (sealed k u (deciphered (notarized a u u) b)))
 
   -- the eight bytes of the first entry, moved
   abbrev newBytes : Bytes → Bytes
@@ -72,23 +72,21 @@ module _ (a k : Bytes) where
     shorter : n * 12 ≤ length (drop 12 t)
     shorter = omega (arith, length-drop 12 t)
 
-    mine : (u : ℕ) → big u ≡ false → eqb u (idOf t) ≡ true → newBytes t ≡ sealed k u (deciphered (notarized a u u) (take 8 (drop 4 t)))
-    mine u s e =
-        ap (λ (i : ℕ). cond (big i) (take 8 (drop 4 t)) (sealed k i (deciphered (notarized a i i) (take 8 (drop 4 t))))) (sym (eqb-true u (idOf t) e))
-        ∙ ap (λ (b : Bool). cond b (take 8 (drop 4 t)) (sealed k u (deciphered (notarized a u u) (take 8 (drop 4 t))))) s
+    mine : (u : ℕ) → eqb u (idOf t) ≡ true → some (newBytes t) ≡ resealed u (some (take 8 (drop 4 t)))
+    mine u e = ap (λ (i : ℕ). some (cond (big i) (take 8 (drop 4 t)) (sealed k i (deciphered (notarized a i i) (take 8 (drop 4 t)))))) (sym (eqb-true u (idOf t) e))
 
-  moved-in : (u : ℕ) → big u ≡ false → (n : ℕ) (t : Bytes) → n * 12 ≤ length t → entryIn n u (movedIn n a k t) ≡ resealed u (entryIn n u t)
+  moved-in : (u n : ℕ) (t : Bytes) → n * 12 ≤ length t → entryIn n u (movedIn n a k t) ≡ resealed u (entryIn n u t)
   unfolding entryIn movedIn movedEntry idOf
-  moved-in u s zero t l = refl
-  moved-in u s (suc n) t l =
+  moved-in u zero t l = refl
+  moved-in u (suc n) t l =
       let x = newBytes t in
       let r = movedIn n a k (drop 12 t) in
       let f = four n t l in
       let g = eight n t l in
       let d : drop 12 ((take 4 t ++ x) ++ r) ≡ r = drop-at (take 4 t ++ x) r 12 (twelve n t l) in
       byTest (eqb u (idOf t))
-      (λ e. rw (moved-id (take 4 t) x r f g, e, moved-bytes (take 4 t) x r f g, mine n t l u s e))
-      (λ e. rw (moved-id (take 4 t) x r f g, e, d) (moved-in u s n (drop 12 t) (shorter n t l)))
+      (λ e. rw (moved-id (take 4 t) x r f g, e, moved-bytes (take 4 t) x r f g) (mine n t l u e))
+      (λ e. rw (moved-id (take 4 t) x r f g, e, d) (moved-in u n (drop 12 t) (shorter n t l)))
 
   size-in : (n : ℕ) (t : Bytes) → n * 12 ≤ length t → length (movedIn n a k t) ≡ length t
   unfolding movedIn movedEntry
@@ -101,10 +99,10 @@ module _ (a k : Bytes) where
   unfolding moved
   moved-size t = size-in (length t / 12) t (omega arith)
 
-  -- every user keeps his entry, and who has none gets none
-  pub moved-entry : (u : ℕ) (t : Bytes) → big u ≡ false → entryOf u (moved a k t) ≡ resealed u (entryOf u t)
+  -- everyone keeps his entry, and who has none gets none
+  pub moved-entry : (u : ℕ) (t : Bytes) → entryOf u (moved a k t) ≡ resealed u (entryOf u t)
   unfolding entryOf moved
-  moved-entry u t s = ap (λ (n : ℕ). entryIn (n / 12) u (movedIn (length t / 12) a k t)) (moved-size t) ∙ moved-in u s (length t / 12) t (omega arith)
+  moved-entry u t = ap (λ (n : ℕ). entryIn (n / 12) u (movedIn (length t / 12) a k t)) (moved-size t) ∙ moved-in u (length t / 12) t (omega arith)
 
 -- ---- the entries of a table of bytes are eight bytes
 
@@ -127,13 +125,14 @@ unfolding entryOf
 held u t b = held-in u (length t / 12) t (omega arith) b
 
 -- the moved entry holds the password p under the key k exactly if the entry held it under the key a
-kept : (a k : Bytes) (u : ℕ) (p : Bytes) (o : Option Bytes) → Octets p → Held o → authentic k u p (resealed a k u o) ≡ authentic a u p o
+kept : (a k : Bytes) (u : ℕ) (p : Bytes) (o : Option Bytes) → big u ≡ false → Octets p → Held o → authentic k u p (resealed a k u o) ≡ authentic a u p o
 unfolding authentic sealed
-kept a k u p none q h = refl
-kept a k u p (some b) q h =
+kept a k u p none s q h = refl
+kept a k u p (some b) s q h =
     let n = notarized a u u in
     let m = notarized k u u in
-    same-iff (enciphered m (deciphered n b)) (enciphered m p) b (enciphered n p)
+    ap (λ (x : Bool). same (cond x b (enciphered m (deciphered n b))) (enciphered m p)) s
+    ∙ same-iff (enciphered m (deciphered n b)) (enciphered m p) b (enciphered n p)
     (λ e.
     let c : deciphered n b ≡ p =
     sym (deciphered-enciphered m (deciphered n b) (deciphered-octets n b)) ∙ ap (deciphered m) e ∙ deciphered-enciphered m p q in
@@ -180,13 +179,18 @@ module _ (w : World) (out : Bytes) (done : Performed w RPW out) where
       both true false b h = absurd (true≢false h)
       both false a b h = absurd (true≢false h)
 
+  -- every user's entry is moved, an entry that is no user's stays, and nobody gets or loses one
+  pub rpw-entry : (u : ℕ) → entryOf u (after .table) ≡ resealed (old1 w) (key1 w) u (entryOf u (w .table))
+  unfolding effected
+  rpw-entry u = ap (λ (x : World). entryOf u (x .table)) after-is ∙ moved-entry (old1 w) (key1 w) u (w .table)
+
   -- a user authenticates under the new key exactly if he did under the old
   pub rpw-keeps : Below 256 (w .table) → (u : ℕ) (p : Bytes) → big u ≡ false → Octets p → authenticates after u p ≡ authentic (old1 w) u p (entryOf u (w .table))
   unfolding effected
   rpw-keeps bytes u p s o =
       ap (λ (x : World). authenticates x u p) after-is
-      ∙ ap (authentic (key1 w) u p) (moved-entry (old1 w) (key1 w) u (w .table) s)
-      ∙ kept (old1 w) (key1 w) u p (entryOf u (w .table)) o (held u (w .table) bytes)
+      ∙ ap (authentic (key1 w) u p) (moved-entry (old1 w) (key1 w) u (w .table))
+      ∙ kept (old1 w) (key1 w) u p (entryOf u (w .table)) s o (held u (w .table) bytes)
 
   -- RPW once more is answered 7 and alters nothing
   again : (out′ : Bytes) → step effected RPW out′ ≡ result (plain (Refused 7) out′) effected
@@ -227,8 +231,8 @@ module _ (w : World) (k out out′ : Bytes) (entered : Performed w (EIK 1 k) out
   between = step w (EIK 1 k) out .world
 
   -- the world after both
-  abbrev pub rekeyedWorld : World
-  rekeyedWorld = step between RPW out′ .world
+  abbrev pub reencrypted : World
+  reencrypted = step between RPW out′ .world
 
   eik-first : firstOf (tests (EIK 1 k) w out) ≡ 0
   unfolding step
@@ -247,61 +251,61 @@ module _ (w : World) (k out out′ : Bytes) (entered : Performed w (EIK 1 k) out
       (subst (λ (x : World). keyAt 1 (x .facility .«old_keys») .present ≡ true) between-is (rpw-keys between out′ moves .0))
 
   -- every user authenticates exactly if he did before
-  pub authenticates-as-before : Below 256 (w .table) → (u : ℕ) (p : Bytes) → big u ≡ false → Octets p → authenticates rekeyedWorld u p ≡ authenticates w u p
+  pub authenticates-as-before : Below 256 (w .table) → (u : ℕ) (p : Bytes) → big u ≡ false → Octets p → authenticates reencrypted u p ≡ authenticates w u p
   authenticates-as-before bytes u p s o =
       let t : between .table ≡ w .table = ap (λ (x : World). x .table) between-is in
       rpw-keeps between out′ moves (subst (Below 256) (sym t) bytes) u p s o
       ∙ ap₂ (λ (x : HeldInterchangeKey) (y : Bytes). authentic (x .key .0) u p (entryOf u y)) key-kept t
 
   -- what RAS and CPW look at is as before
-  places-kept : rekeyedWorld .facility .places ≡ w .facility .places
+  places-kept : reencrypted .facility .places ≡ w .facility .places
   unfolding effected keyed rekeyed
   places-kept = ap (λ (x : World). x .facility .places) (after-is between out′ moves) ∙ ap (λ (x : World). x .facility .places) between-is
 
-  fits-kept : fits (length (rekeyedWorld .table)) ≡ fits (length (w .table))
+  fits-kept : fits (length (reencrypted .table)) ≡ fits (length (w .table))
   unfolding effected
   fits-kept =
       ap (λ (x : World). fits (length (x .table))) (after-is between out′ moves)
       ∙ ap fits (moved-size (old1 between) (key1 between) (between .table))
       ∙ ap (λ (x : World). fits (length (x .table))) between-is
 
-  key-there : keyAt 1 (rekeyedWorld .facility .«current_keys») .present ≡ keyAt 1 (w .facility .«current_keys») .present
+  key-there : keyAt 1 (reencrypted .facility .«current_keys») .present ≡ keyAt 1 (w .facility .«current_keys») .present
   unfolding effected
   key-there =
       ap (λ (x : World). keyAt 1 (x .facility .«current_keys») .present) (after-is between out′ moves)
       ∙ rpw-keys between out′ moves .1
       ∙ sym (sym (ap (λ (x : HeldInterchangeKey). x .present) key-kept) ∙ rpw-keys between out′ moves .0)
 
-  not-due : rekeyedWorld .facility .due ≡ w .facility .due
+  not-due : reencrypted .facility .due ≡ w .facility .due
   unfolding effected tests ofOwn
   not-due =
       ap (λ (x : World). x .facility .due) (after-is between out′ moves)
       ∙ sym (next _ 7 _ (λ q. omega arith) (next _ 6 _ (λ q. omega arith) eik-first .1) .0)
 
-  alike : (u : ℕ) (p : Bytes) → authenticates rekeyedWorld u p ≡ authenticates w u p → sight rekeyedWorld u p ≡ sight w u p
+  alike : (u : ℕ) (p : Bytes) → authenticates reencrypted u p ≡ authenticates w u p → sight reencrypted u p ≡ sight w u p
   alike u p e = seen-alike fits-kept places-kept key-there not-due e
 
   -- RAS and CPW are answered as before, whoever the user and whatever the password
   module _ (bytes : Below 256 (w .table)) (u : ℕ) (p out″ : Bytes) (o : Octets p) where
     -- a list that begins with 1
-    numbered : (F : Sight → ℕ) → test (big u) 1 (F (sight rekeyedWorld u p)) ≡ test (big u) 1 (F (sight w u p))
+    numbered : (F : Sight → ℕ) → test (big u) 1 (F (sight reencrypted u p)) ≡ test (big u) 1 (F (sight w u p))
     unfolding test
     numbered F =
         byTest (big u)
-        (λ e. ap (λ (b : Bool). test b 1 (F (sight rekeyedWorld u p))) e ∙ sym (ap (λ (b : Bool). test b 1 (F (sight w u p))) e))
+        (λ e. ap (λ (b : Bool). test b 1 (F (sight reencrypted u p))) e ∙ sym (ap (λ (b : Bool). test b 1 (F (sight w u p))) e))
         (λ e. ap (λ (x : Sight). test (big u) 1 (F x)) (alike u p (authenticates-as-before bytes u p e o)))
 
-    pub ras-as-before : numberOf (step rekeyedWorld (by u (RAS p)) out″ .answered .answer) ≡ numberOf (step w (by u (RAS p)) out″ .answered .answer)
+    pub ras-as-before : numberOf (step reencrypted (by u (RAS p)) out″ .answered .answer) ≡ numberOf (step w (by u (RAS p)) out″ .answered .answer)
     unfolding refusals effect
     ras-as-before =
-        reply-first rekeyedWorld u (RAS p) out″ refl
+        reply-first reencrypted u (RAS p) out″ refl
         ∙ numbered (λ x. test (not (x .fitting)) 2 (test (seatOf (find u (x .places)) .active) 4 (test (not (x .key)) 6 (test (x .due) 7 (test (shutTo (find u (x .places)) (x .places)) 8 (test (not (x .own)) 9 0))))))
         ∙ sym (reply-first w u (RAS p) out″ refl)
 
-    pub cpw-as-before : (new : Bytes) → numberOf (step rekeyedWorld (by u (CPW p new)) out″ .answered .answer) ≡ numberOf (step w (by u (CPW p new)) out″ .answered .answer)
+    pub cpw-as-before : (new : Bytes) → numberOf (step reencrypted (by u (CPW p new)) out″ .answered .answer) ≡ numberOf (step w (by u (CPW p new)) out″ .answered .answer)
     unfolding refusals effect
     cpw-as-before new =
-        reply-first rekeyedWorld u (CPW p new) out″ refl
+        reply-first reencrypted u (CPW p new) out″ refl
         ∙ numbered (λ x. test (not (x .fitting)) 2 (test (not (seatOf (find u (x .places)) .active)) 3 (test (not (x .key)) 6 (test (x .due) 7 (test (not (x .own)) 9 0)))))
         ∙ sym (reply-first w u (CPW p new) out″ refl)
 

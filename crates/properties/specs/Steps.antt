@@ -21,9 +21,13 @@ use Rattle.rules.proofs.Laws.{passed}
 abbrev pub listOf : World → ℕ → UserCommand → Bytes → ℕ
 listOf w u c out = firstOf (refusals u c (length out) (shutFor u w) (own u w))
 
--- it was done: its reply is 0
+-- a command was done: its reply is 0
+abbrev pub Performed : World → Command → Bytes → Type 0
+Performed w c out = numberOf (step w c out .answered .answer) ≡ 0
+
+-- a user's command was done
 abbrev pub Accepted : World → ℕ → UserCommand → Bytes → Type 0
-Accepted w u c out = numberOf (step w (by u c) out .answered .answer) ≡ 0
+Accepted w u c out = Performed w (by u c) out
 
 module _ (w : World) (u : ℕ) (c : UserCommand) (out : Bytes) where
   pub accepted-first : Accepted w u c out → listOf w u c out ≡ 0
@@ -46,10 +50,6 @@ module _ (w : World) (u : ℕ) (c : UserCommand) (out : Bytes) where
       let n = listOf w u c out in
       let told-as : Bool → ℕ = λ b. numberOf (told (cond b (effect u c (own u w)) (refused n)) out .answer) in
       byTest (eqb n 0) (λ e. ap told-as e ∙ d ∙ sym (eqb-true n 0 e)) (λ e. ap told-as e)
-
--- any command was done: its reply is 0; of a user's command that is `Accepted`
-abbrev pub Performed : World → Command → Bytes → Type 0
-Performed w c out = numberOf (step w c out .answered .answer) ≡ 0
 
 -- an officer's command that was done: none of its conditions holds, and the world is as its effect says
 module _ (n : ℕ) (w w′ : World) (out : Bytes) where
@@ -87,13 +87,17 @@ pub small-pair : (i j : ℕ) → big i ≡ false → big j ≡ false → bigPair
 unfolding bigPair
 small-pair i j a b = ap (λ (x : Bool). cond x true (big j)) a ∙ b
 
+-- none is not some
+pub none-not-some : {A : Type 0} {a : A} → none ≡ some a → ⊥
+none-not-some q = let z : _≡_ {A = ℕ} 0 1 = cc in omega arith
+
 -- ---- what a user holds after it was given to him
 
 has-seat : (u : ℕ) (h : Holdings) → has u (seat u h) ≡ true
 has-seat u h = eq-eqb u u refl
 
-put-own : (u : ℕ) (h h′ : Holdings) (ps : List Place) → find u ps ≡ some h → find u (put u (seat u h′) ps) ≡ some h′
-put-own u h h′ [] e = absurd (let z : _≡_ {A = ℕ} 0 1 = cc in omega arith)
+pub put-own : (u : ℕ) (h h′ : Holdings) (ps : List Place) → find u ps ≡ some h → find u (put u (seat u h′) ps) ≡ some h′
+put-own u h h′ [] e = absurd (none-not-some e)
 put-own u h h′ (p ∷ ps) e =
     byTest (has u p)
     (λ t.

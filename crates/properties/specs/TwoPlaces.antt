@@ -15,7 +15,7 @@ use Rattle.table.specs.Entries.{enrolled}
 use Rattle.table.specs.Passwords.{big, sealed, moved}
 use Rattle.rules.specs.declared.Answer.the-variants.{Done, Refused}
 use Rattle.rules.specs.Commands.{UserCommand, LAU, Command, by, EIK, IPW, RPW, logout, World, Own, Effect, refused, gives, keeps, leaves, enters, writes, carry, own, refusals, effect, rule, ruleIn, tests, firstOf, Result, result, told, plain, numberOf, step, stepBy, settled, over, undue, keyed}
-use Rattle.properties.specs.Steps.{done-step, fails}
+use Rattle.properties.specs.Steps.{done-step, fails, none-not-some}
 use Rattle.properties.specs.Single.{has-same, count}
 
 -- ---- the first counts
@@ -28,12 +28,9 @@ housing w ps = over (withPlaces (w .facility) ps) (w .table)
 abbrev pub before : List Place → Result → Result
 before qs r = result (r .answered) (housing (r .world) (r .world .facility .places ++ qs))
 
-never : {h : Holdings} → none ≡ some h → ⊥
-never q = let z : _≡_ {A = ℕ} 0 1 = cc in omega arith
-
 module _ (u : ℕ) (h : Holdings) (qs : List Place) where
   find-front : (ps : List Place) → find u ps ≡ some h → find u (ps ++ qs) ≡ some h
-  find-front [] e = absurd (never e)
+  find-front [] e = absurd (none-not-some e)
   find-front (p ∷ ps) e =
       byTest (has u p)
       (λ t. ap (λ (b : Bool). cond b (some (p .holdings)) (find u (ps ++ qs))) t ∙ sym (ap (λ (b : Bool). cond b (some (p .holdings)) (find u ps)) t) ∙ e)
@@ -42,7 +39,7 @@ module _ (u : ℕ) (h : Holdings) (qs : List Place) where
       ∙ find-front ps (sym (ap (λ (b : Bool). cond b (some (p .holdings)) (find u ps)) f) ∙ e))
 
   put-front : (x : Place) (ps : List Place) → find u ps ≡ some h → put u x (ps ++ qs) ≡ put u x ps ++ qs
-  put-front x [] e = absurd (never e)
+  put-front x [] e = absurd (none-not-some e)
   put-front x (p ∷ ps) e =
       byTest (has u p)
       (λ t.
@@ -106,7 +103,7 @@ module _ (u : ℕ) (x : Place) where
 
   put-second : (h : Holdings) (v i : ℕ) (ps : List Place) → find u (take i ps) ≡ some h → has u (getD ps i vacant) ≡ true → getD (put v x ps) i vacant ≡ getD ps i vacant
   put-second h v i [] e m = refl
-  put-second h v zero (p ∷ ps) e m = absurd (never e)
+  put-second h v zero (p ∷ ps) e m = absurd (none-not-some e)
   put-second h v (suc i) (p ∷ ps) e m =
       byTest (has v p)
       (λ t. ap (λ (b : Bool). getD (cond b (x ∷ ps) (p ∷ put v x ps)) (suc i) vacant) t)
