@@ -148,7 +148,7 @@ module _ (w : World) (u : ℕ) (m : Mode) (d e out₁ out₂ : Bytes) (h : Holdi
     (o : Octets (modeSide m h .vector .vector .0)) (bytes : Below 256 d)
     (one : Accepted w u (mode m d) out₁) (two : Accepted (step w (by u (mode m d)) out₁ .world) u (mode m e) out₂) where
   -- the world between the calls
-  abbrev between : World
+  abbrev pub between : World
   between = step w (by u (mode m d)) out₁ .world
 
   -- what the calls wrote
@@ -208,13 +208,13 @@ module _ (w : World) (u : ℕ) (m : Mode) (d e out₁ out₂ : Bytes) (h : Holdi
         (written w u m d out₁ h active one)
         (written between u m e out₂ (held m h d) still two ∙ ap₂ (λ (k v : Bytes). modeText m k v e) key-is vector-is))
 
-    -- and leaves the world that they left
     held-same : held m (held m h d) e ≡ held m h (d ++ e)
     held-same =
         ap₂ (λ (k v : Bytes). afterMode m (record { 0 = modeVector m k v e }) (held m h d)) key-is vector-is
         ∙ twice h (vectorOf m h d) m _
         ∙ ap (λ (v : Bytes). afterMode m (record { 0 = v }) h) (sym (modeVector-join m (modeSide m h .key .key .0) (modeSide m h .vector .vector .0) d e o all))
 
+    -- and leaves the world that they left
     pub joined-world : step w (by u (mode m (d ++ e))) out .world ≡ step between (by u (mode m e)) out₂ .world
     joined-world =
         left-world w u m (d ++ e) out h active third

@@ -216,7 +216,7 @@ module _ (w : World) (u : ℕ) (p out : Bytes) (done : Performed w (IPW u p) out
       let c = cpw-done after u p out′ (ipw-stands w u p out done) h new a in
       (c .0, stands-authentic (step after (by u (CPW p new)) out′ .world) u new (c .2))
 
-  -- and after that RAS too
+  -- CPW accepts it too after RAS
   pub cpw-after-ras : (new out′ out″ : Bytes) → Inactive u after → Room after → Performed (step after (by u (RAS p)) out′ .world) (by u (CPW p new)) out″
   cpw-after-ras new out′ out″ i r =
       let d = ras-done after u p out′ (ipw-stands w u p out done) i r in

@@ -192,13 +192,13 @@ module _ (w : World) (out : Bytes) (done : Performed w RPW out) where
       ∙ ap (authentic (key1 w) u p) (moved-entry (old1 w) (key1 w) u (w .table))
       ∙ kept (old1 w) (key1 w) u p (entryOf u (w .table)) s o (held u (w .table) bytes)
 
-  -- RPW once more is answered 7 and alters nothing
   again : (out′ : Bytes) → step effected RPW out′ ≡ result (plain (Refused 7) out′) effected
   unfolding step tests effected outOfTurn test
   again out′ =
       ap (λ (n : ℕ). settled n effected out′ (over (undue (effected .facility)) (moved (old1 effected) (key1 effected) (effected .table))))
       (ap (λ (n : ℕ). test (not (fits n)) 2 7) (moved-size (old1 w) (key1 w) (w .table)) ∙ ap (λ (b : Bool). test (not b) 2 7) rpw-fits)
 
+  -- RPW once more, right after it, is answered 7 and alters nothing
   pub rpw-twice : (out′ : Bytes) → step after RPW out′ ≡ result (plain (Refused 7) out′) after
   rpw-twice out′ = subst (λ (x : World). step x RPW out′ ≡ result (plain (Refused 7) out′) x) (sym after-is) (again out′)
 
@@ -250,7 +250,17 @@ module _ (w : World) (k out out′ : Bytes) (entered : Performed w (EIK 1 k) out
       ∙ stored (w .facility .«old_keys») (getD (w .facility .«current_keys») 0 pastKeys)
       (subst (λ (x : World). keyAt 1 (x .facility .«old_keys») .present ≡ true) between-is (rpw-keys between out′ moves .0))
 
-  -- every user authenticates exactly if he did before
+  -- the current key is the one entered
+  pub key-entered : key1 reencrypted ≡ k
+  unfolding effected keyed rekeyed named keyAt
+  key-entered =
+      ap key1 (after-is between out′ moves)
+      ∙ ap key1 between-is
+      ∙ ap (λ (x : HeldInterchangeKey). x .key .0)
+      (stored (w .facility .«current_keys») (record { present = true; key = record { 0 = k } })
+      (subst (λ (x : World). keyAt 1 (x .facility .«current_keys») .present ≡ true) between-is (rpw-keys between out′ moves .1)))
+
+  -- every user authenticates exactly if he did before (that name 1 had a current key is known: RPW was done)
   pub authenticates-as-before : Below 256 (w .table) → (u : ℕ) (p : Bytes) → big u ≡ false → Octets p → authenticates reencrypted u p ≡ authenticates w u p
   authenticates-as-before bytes u p s o =
       let t : between .table ≡ w .table = ap (λ (x : World). x .table) between-is in
