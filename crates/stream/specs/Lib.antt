@@ -2,3 +2,4 @@ pub mod Fields
 pub mod Commands
 pub mod Grammar
 pub mod FieldLaws
+pub mod RequestLaws
