@@ -79,3 +79,19 @@ module _ (s : Bytes) (at : ℕ) where
       let b : part (at + 1) (at + 3) s ≡ digits 256 2 (length v) = rw (two, l) (take-at (digits 256 2 (length v)) (v ++ r) 2 (digits-length 256 2 (length v))) in
       let n : lengthAt s at ≡ length v = ap (row 256 0) b ∙ row-digits 256 2 (length v) short in
       headed (omega arith) ∙ rw (n, t, le-ltb (length s - at - 3) (length v) (omega arith))
+
+  -- and its value and what follows it stand there
+  after-header : (tag : ℕ) (v r : Bytes) → drop at s ≡ field tag v ++ r → drop (at + 3) s ≡ v ++ r
+  after-header tag v r h =
+      sym (drop-drop 3 at s)
+      ∙ ap (drop 3) h
+      ∙ ap (drop 2) (append-assoc (digits 256 2 (length v)) v r)
+      ∙ drop-at (digits 256 2 (length v)) (v ++ r) 2 (digits-length 256 2 (length v))
+
+  pub field-value : (tag : ℕ) (v r : Bytes) → drop at s ≡ field tag v ++ r → part (at + 3) (at + 3 + length v) s ≡ v
+  field-value tag v r h =
+      let n : at + 3 + length v - (at + 3) ≡ length v = omega arith in
+      rw (n, after-header tag v r h) (take-at v r (length v) refl)
+
+  pub field-rest : (tag : ℕ) (v r : Bytes) → drop at s ≡ field tag v ++ r → drop (at + 3 + length v) s ≡ r
+  field-rest tag v r h = sym (drop-drop (length v) (at + 3) s) ∙ ap (drop (length v)) (after-header tag v r h) ∙ drop-at v r (length v) refl

@@ -3,3 +3,4 @@ pub mod Commands
 pub mod Grammar
 pub mod FieldLaws
 pub mod RequestLaws
+pub mod Exact
