@@ -7,7 +7,7 @@ use Prim.Native.Nat.{ℕ, zero, suc, _+_, _-_, _≤_, _<_}
 use native.Mathlib.Nat.{le-of-suc-le-suc, not-suc-le-zero}
 use native.Mathlib.Omega.{arith}
 use lib.Dec.{eqb, ltb, leb}
-use lib.ListN.{length, getD, take, drop, length-append, length-drop, drop-of-length-le}
+use lib.ListN.{length, getD, take, drop, replicate, length-append, length-drop, drop-of-length-le}
 use borrow.Author.Tests.{eqb-true, eqb-false, eq-eqb, ne-eqb, ltb-true, leb-true}
 use Rattle.ground.specs.Search.{byTest}
 use Rattle.ground.specs.Lists.{Below, padded, below-take, below-drop, rest-all}
@@ -208,3 +208,108 @@ module _ (t : ℕ) (v : Bytes) (all-bytes : Below 256 v) where
       (step-sound n k ks r (w .0) (w .1) base up clear (w .2) (w .3) c)
       refl
       (subst (λ (q : Reading). readAll v q ks .fits ≡ true) is h)))
+
+-- ---- what is spelled fits
+
+-- q has read all of v, and says a and d
+record Done (t : ℕ) (v : Bytes) (a : Request) (d : Bytes) (q : Reading) : Type 0 where
+  fits : q .fits ≡ true
+  end : q .at ≡ length v
+  says : (j : ℕ) → tells v q j ≡ argument j a d
+  sound : Sound t (q .asked)
+
+module _ (t : ℕ) (v : Bytes) (a : Request) (d : Bytes) (proper : Sound t a) (small : length d < 65536) where
+  spelled-read : (n : ℕ) (ks : List ℕ) (r : Reading) → 0x80 ≤ n → ascending n ks ≡ true → (n < 0x87 → said v r ≡ []) → Sound t (r .asked)
+      → r .fits ≡ true → r .at ≤ length v → drop (r .at) v ≡ spelled ks a d → ((j : ℕ) → among j ks ≡ false → tells v r j ≡ argument j a d)
+      → Done t v a d (readAll v r ks)
+  unfolding readAll spelled among
+  spelled-read n [] r base up clear c fit l h says =
+      let z = sym (length-drop (r .at) v) ∙ ap length h in
+      record { fits = fit; end = omega arith; says = λ j. says j refl; sound = c }
+  spelled-read n (k ∷ ks) r base up clear c fit l h says =
+      let u = above n k ks up in
+      let b = argument k a d in
+      let low : 0x80 < k = omega arith in
+      let high = up-to n k ks up in
+      let s = r .at + 3 in
+      let e = r .at + 3 + length b in
+      let whole : fieldAt v (r .at) ≡ Whole k s e = field-is-whole v (r .at) k b (spelled ks a d) (short k low high t a d proper small) h in
+      let value : part s e v ≡ b = field-value v (r .at) k b (spelled ks a d) h in
+      let size : hasSize k (length (part s e v)) ≡ true = rw value (sized k low high t a d proper) in
+      let bytes : k < 0x83 → Below 256 (part s e v) = λ x. rw value (in-bytes k low high a d x) in
+      let w = within v (r .at) k s e whole in
+      let is : readOne v r k ≡ taken v r k s e = read-whole v r k low fit s e whole (ap (hasSize k) (sym (part-length s e v (w .1) (w .2))) ∙ size) in
+      rw is
+      (spelled-read k ks (taken v r k s e) (omega arith) (later n k ks up) (next-blank v r k s e low high)
+      (stays-sound k low high t (part s e v) (r .asked) size bytes c)
+      refl
+      (w .2)
+      (field-rest v (r .at) k b (spelled ks a d) h)
+      (λ j x. byTest (eqb j k)
+      (λ y. rw (eqb-true j k y) (next-own v r k s e low high size bytes ∙ value))
+      (λ y. next-other v r k s e low high j y (λ z. clear (omega arith)) ∙ says j (rw (y, x)))))
+
+-- ---- the decoder and the grammar
+
+ended-at : (t n : ℕ) (r : Reading) → ended t n r .fits ≡ true → r .at ≡ n
+unfolding ended begun
+ended-at t n r h = byTest (eqb (r .at) n) (λ e. eqb-true (r .at) n e) (λ e. absurd (false≢true (rw e at h)))
+
+ended-is : (t n : ℕ) (r : Reading) → r .at ≡ n → ended t n r ≡ r
+unfolding ended
+ended-is t n r e = rw (eq-eqb (r .at) n e)
+
+module _ (t : ℕ) (v : Bytes) where
+  decoded-none : argumentsOf t ≡ none → decoded t v .fits ≡ false
+  unfolding decoded formOf ended begun
+  decoded-none e =
+      rw e (byTest (eqb (readAll v (begun false t) (replicate 5 0) .at) (length v)) (λ b. rw b (stuck v (replicate 5 0) (begun false t) refl)) (λ b. rw b))
+
+  module _ (ks : List ℕ) (known : argumentsOf t ≡ some ks) where
+    decoded-by : decoded t v ≡ ended t (length v) (readAll v (begun true t) ks)
+    unfolding decoded formOf
+    decoded-by = rw (known, read-padded v (begun true t) 5 ks (arguments-ordered t ks known .1))
+
+    all-data : (q : Reading) → q .at ≡ length v → said v q ≡ drop (q .text) v
+    all-data q e = ap (λ (n : ℕ). part (q .text) n v) e ∙ rest-all v (q .text)
+
+    known-spells : Below 256 v → decoded t v .fits ≡ true → Spells t v (decoded t v .asked) (drop (decoded t v .text) v)
+    unfolding begun
+    known-spells bytes h =
+        let q = readAll v (begun true t) ks in
+        let fit : ended t (length v) q .fits ≡ true = ap (λ (r : Reading). r .fits) (sym decoded-by) ∙ h in
+        let end : q .at ≡ length v = ended-at t (length v) q fit in
+        let is : ended t (length v) q ≡ q = ended-is t (length v) q end in
+        let read = fits-read t v bytes 0x80 ks (begun true t) (omega arith) (arguments-ordered t ks known .0) (λ x. refl) (blank-sound t) refl (ap (λ (r : Reading). r .fits) (sym is) ∙ fit) in
+        let data-is : said v q ≡ drop (q .text) v = all-data q end in
+        rw (decoded-by, is)
+        (record {
+          arguments = ks;
+          known = known;
+          value = read .bytes ∙ ap₂ (λ (x y : Bytes). spelled ks (q .asked) x ++ y) data-is (drop-of-length-le v {i = q .at} (omega arith)) ∙ append-nil (spelled ks (q .asked) (drop (q .text) v));
+          tagged = read .sound .tagged;
+          issued = read .sound .issued;
+          partied = read .sound .partied;
+          eight = read .sound .eight;
+          absent = λ k x. ap (argument k (q .asked)) (sym data-is) ∙ read .others k x
+        })
+
+  pub fits-spells : Below 256 v → decoded t v .fits ≡ true → Spells t v (decoded t v .asked) (drop (decoded t v .text) v)
+  fits-spells bytes h = go (argumentsOf t) refl
+    where
+      go : (o : Option (List ℕ)) → argumentsOf t ≡ o → Spells t v (decoded t v .asked) (drop (decoded t v .text) v)
+      go none e = absurd (false≢true (sym (decoded-none e) ∙ h))
+      go (some ks) e = known-spells ks e bytes h
+
+  pub spells-fits : (a : Request) (d : Bytes) → length d < 65536 → Spells t v a d → (decoded t v .fits ≡ true) × (decoded t v .asked ≡ a) × (drop (decoded t v .text) v ≡ d)
+  unfolding begun
+  spells-fits a d small h =
+      let ks = h .arguments in
+      let q = readAll v (begun true t) ks in
+      let c : Sound t a = record { tagged = h .tagged; issued = h .issued; partied = h .partied; eight = h .eight } in
+      let done = spelled-read t v a d c small 0x80 ks (begun true t) (omega arith) (arguments-ordered t ks (h .known) .0) (λ x. refl) (blank-sound t) refl (omega arith) (h .value) (λ j x. sym (h .absent j x)) in
+      let is : decoded t v ≡ q = decoded-by ks (h .known) ∙ ended-is t (length v) q (done .end) in
+      rw is
+      (done .fits,
+      same-request t (q .asked) a (said v q) d (done .sound) c (done .says),
+      sym (all-data ks (h .known) q (done .end)) ∙ same-data t (q .asked) a (said v q) d (done .sound) c (done .says))
