@@ -16,10 +16,10 @@ use Rattle.stream.specs.declared.Field.the-variants.{Whole, Cut, End}
 use Rattle.stream.specs.declared.Request.{Request}
 use Rattle.stream.specs.declared.Reading.{Reading}
 use Rattle.stream.specs.Fields.{Bytes, field, part, fieldAt, within, part-length}
-use Rattle.stream.specs.FieldLaws.{part-none, whole-is-field, field-is-whole, field-value, field-rest}
+use Rattle.stream.specs.FieldLaws.{part-none, field-length, whole-is-field, field-is-whole, field-value, field-rest}
 use Rattle.stream.specs.Commands.{Row, commands, argumentsIn, argumentsOf, formOf, hasSize, blank, filled, begun, isArgument, argument-is, took, readOne, readAll, ended, decoded}
 use Rattle.stream.specs.Grammar.{argument, spelled, among, Spells}
-use Rattle.stream.specs.RequestLaws.{Sound, blank-sound, own, other, stays-sound, sized, in-bytes, short, no-data, same-request, same-data}
+use Rattle.stream.specs.RequestLaws.{Sound, blank-sound, own, other, stays-sound, one-size, sized, in-bytes, short, no-data, same-request, same-data}
 
 both : (b c : Bool) → cond b c false ≡ true → (b ≡ true) × (c ≡ true)
 both true c e = (refl, e)
@@ -249,6 +249,38 @@ module _ (t : ℕ) (v : Bytes) (a : Request) (d : Bytes) (proper : Sound t a) (s
       (λ y. rw (eqb-true j k y) (next-own v r k s e low high size bytes ∙ value))
       (λ y. next-other v r k s e low high j y (λ z. clear (omega arith)) ∙ says j (rw (y, x)))))
 
+-- ---- the fields of a value are those of one request
+
+nothing-above : (n : ℕ) (ks : List ℕ) → ascending n ks ≡ true → 0x87 ≤ n → ks ≡ []
+nothing-above n [] h l = refl
+nothing-above n (k ∷ ks) h l = absurd (omega (arith, above n k ks h, up-to n k ks h))
+
+module _ (t : ℕ) (a a′ : Request) (d d′ : Bytes) (c : Sound t a) (c′ : Sound t a′) where
+  same-length : (n k : ℕ) (ks : List ℕ) → 0x80 ≤ n → ascending n (k ∷ ks) ≡ true → spelled (k ∷ ks) a d ≡ spelled (k ∷ ks) a′ d′ → length (argument k a d) ≡ length (argument k a′ d′)
+  unfolding spelled
+  same-length n k ks base up h =
+      let u = above n k ks up in
+      let high = up-to n k ks up in
+      byTest (eqb k 0x87)
+      (λ e.
+      let z : ks ≡ [] = nothing-above k ks (later n k ks up) (omega (arith, eqb-true k 0x87 e)) in
+      let g : field k (argument k a d) ++ [] ≡ field k (argument k a′ d′) ++ [] = subst (λ (l : List ℕ). field k (argument k a d) ++ spelled l a d ≡ field k (argument k a′ d′) ++ spelled l a′ d′) z h in
+      omega (arith, ap length g, length-append (field k (argument k a d)) [], length-append (field k (argument k a′ d′)) [], field-length k (argument k a d), field-length k (argument k a′ d′)))
+      (λ e. one-size k (omega arith) high (length (argument k a d)) (length (argument k a′ d′)) (omega (arith, eqb-false k 0x87 e)) (sized k (omega arith) high t a d c) (sized k (omega arith) high t a′ d′ c′))
+
+  same-fields : (n : ℕ) (ks : List ℕ) → 0x80 ≤ n → ascending n ks ≡ true → spelled ks a d ≡ spelled ks a′ d′ → (j : ℕ) → among j ks ≡ true → argument j a d ≡ argument j a′ d′
+  unfolding spelled among
+  same-fields n [] base up h j x = absurd (false≢true x)
+  same-fields n (k ∷ ks) base up h j x =
+      let u = above n k ks up in
+      let s = spelled (k ∷ ks) a d in
+      let b = argument k a d in
+      let b′ = argument k a′ d′ in
+      let l : length b ≡ length b′ = same-length n k ks base up h in
+      byTest (eqb j k)
+      (λ e. rw (eqb-true j k e) (sym (field-value s 0 k b (spelled ks a d) refl) ∙ ap (λ (m : ℕ). part 3 (3 + m) s) l ∙ field-value s 0 k b′ (spelled ks a′ d′) h))
+      (λ e. same-fields k ks (omega arith) (later n k ks up) (sym (field-rest s 0 k b (spelled ks a d) refl) ∙ ap (λ (m : ℕ). drop (3 + m) s) l ∙ field-rest s 0 k b′ (spelled ks a′ d′) h) j (rw e at x))
+
 -- ---- the decoder and the grammar
 
 ended-at : (t n : ℕ) (r : Reading) → ended t n r .fits ≡ true → r .at ≡ n
@@ -313,3 +345,43 @@ module _ (t : ℕ) (v : Bytes) where
       (done .fits,
       same-request t (q .asked) a (said v q) d (done .sound) c (done .says),
       sym (all-data ks (h .known) q (done .end)) ∙ same-data t (q .asked) a (said v q) d (done .sound) c (done .says))
+
+sound-of : {t : ℕ} {v : Bytes} {a : Request} {d : Bytes} → Spells t v a d → Sound t a
+sound-of h = record { tagged = h .tagged; issued = h .issued; partied = h .partied; eight = h .eight }
+
+module _ (t : ℕ) (v : Bytes) (a a′ : Request) (d d′ : Bytes) (h : Spells t v a d) (h′ : Spells t v a′ d′) where
+  each-field : (k : ℕ) → argument k a d ≡ argument k a′ d′
+  each-field k =
+      let e = h .known in
+      let e′ = h′ .known in
+      let one : h′ .arguments ≡ h .arguments = cc in
+      byTest (among k (h .arguments))
+      (λ x. same-fields t a a′ d d′ (sound-of h) (sound-of h′) 0x80 (h .arguments) (omega arith) (arguments-ordered t (h .arguments) e .0)
+      (sym (h .value) ∙ h′ .value ∙ ap (λ (ks : List ℕ). spelled ks a′ d′) one) k x)
+      (λ x. h .absent k x ∙ sym (h′ .absent k (ap (among k) one ∙ x)))
+
+  pub one-reading : (a ≡ a′) × (d ≡ d′)
+  one-reading =
+      (same-request t a a′ d d′ (sound-of h) (sound-of h′) each-field, same-data t a a′ d d′ (sound-of h) (sound-of h′) each-field)
+
+data-within : (ks : List ℕ) (a : Request) (d : Bytes) → among 0x87 ks ≡ true → length d ≤ length (spelled ks a d)
+unfolding spelled among argument
+data-within [] a d x = absurd (false≢true x)
+data-within (k ∷ ks) a d x =
+    byTest (eqb 0x87 k)
+    (λ e. rw (← (eqb-true 0x87 k e)) (omega (arith, length-append (field 0x87 d) (spelled ks a d), field-length 0x87 d)))
+    (λ e. omega (arith, length-append (field k (argument k a d)) (spelled ks a d), data-within ks a d (rw e at x)))
+
+-- the data lie within the value
+data-short : (t : ℕ) (v : Bytes) (a : Request) (d : Bytes) → Spells t v a d → length d ≤ length v
+unfolding argument
+data-short t v a d h =
+    byTest (among 0x87 (h .arguments))
+    (λ x. rw (h .value) (data-within (h .arguments) a d x))
+    (λ x. rw (h .absent 0x87 x) (omega arith))
+
+module _ (t : ℕ) (v : Bytes) (bytes : Below 256 v) (small : length v < 65536) where
+  pub misfit : decoded t v .fits ≡ false ↔ ((a : Request) (d : Bytes) → Spells t v a d → ⊥)
+  misfit =
+      (λ e a d h. false≢true (sym e ∙ spells-fits t v a d (omega (arith, data-short t v a d h)) h .0),
+      λ none-fits. byTest (decoded t v .fits) (λ e. absurd (none-fits (decoded t v .asked) (drop (decoded t v .text) v) (fits-spells t v bytes e))) (λ e. e))

@@ -111,6 +111,17 @@ module _ (k : ℕ) (low : 0x80 < k) (high : k ≤ 0x87) where
       (λ h. absurd (omega arith))
       k low high
 
+  -- all but the data have one length
+  pub one-size : (m n : ℕ) → k < 0x87 → hasSize k m ≡ true → hasSize k n ≡ true → m ≡ n
+  unfolding hasSize
+  one-size m n =
+      each (λ (j : ℕ). j < 0x87 → hasSize j m ≡ true → hasSize j n ≡ true → m ≡ n)
+      (λ l e f. to 4 e f) (λ l e f. to 4 e f) (λ l e f. to 1 e f) (λ l e f. to 1 e f) (λ l e f. to 8 e f) (λ l e f. to 8 e f) (λ l e f. absurd (omega arith))
+      k low high
+    where
+      to : (x : ℕ) → eqb m x ≡ true → eqb n x ≡ true → m ≡ n
+      to x e f = eqb-true m x e ∙ sym (eqb-true n x f)
+
   -- only the data may be long
   pub short : (t : ℕ) (a : Request) (d : Bytes) → Sound t a → length d < 65536 → length (argument k a d) < 65536
   unfolding argument
