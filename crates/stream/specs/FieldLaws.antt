@@ -1,20 +1,20 @@
 -- Fields read and fields written: where the reader finds a whole field, a field's bytes stand, and only there.
 use mathlib.Core.Path.{_≡_, refl, sym, ap, ap₂, _∙_}
-use mathlib.Core.Bool.{Bool, true, false, cond}
-use mathlib.Core.List.{List, [], _∷_, _++_, append-assoc}
+use mathlib.Core.Bool.{cond}
+use mathlib.Core.List.{[], _∷_, _++_, append-assoc}
 use Prim.Native.Nat.{ℕ, suc, _+_, _-_, _≤_, _<_}
 use native.Mathlib.Numerals.{add-one}
 use native.Mathlib.Omega.{arith}
-use lib.Dec.{ltb, leb}
-use lib.ListN.{length, getD, take, drop, length-append, length-drop, take-append-drop}
+use lib.Dec.{ltb}
+use lib.ListN.{length, getD, drop, length-append, length-drop, take-append-drop}
 use lib.Seq.{drop-cons, drop-drop, take-at, drop-at, getD-drop}
-use borrow.Author.Tests.{lt-leb, le-ltb, ltb-true, ltb-false}
+use borrow.Author.Tests.{lt-leb, le-ltb}
 use Rattle.ground.specs.Search.{byTest}
 use Rattle.ground.specs.Lists.{Below, below-take, below-drop}
 use Rattle.ground.specs.Rows.{row, digits, digits-row, row-digits, digits-length}
-use Rattle.stream.specs.declared.Field.{Field}
-use Rattle.stream.specs.declared.Field.the-variants.{Whole, Cut, End}
+use Rattle.stream.specs.declared.Field.the-variants.{Whole, Cut}
 use Rattle.stream.specs.Fields.{Bytes, field, part, lengthAt, fieldAt, part-length, within}
+use Rattle.stream.specs.RequestLaws.{short}
 
 -- a part and what follows it
 pub part-rest : (start end : ℕ) (s : Bytes) → start ≤ end → drop start s ≡ part start end s ++ drop end s
