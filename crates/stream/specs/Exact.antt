@@ -20,6 +20,8 @@ use Rattle.stream.specs.RequestLaws.{Sound, blank-sound, same-request, s
 use Rattle.stream.specs.GrammarLaws.{arguments-ordered, same-fields, data-short}
 use Rattle.stream.specs.ReadLaws.{said, stuck, read-padded, fits-read, spelled-read}
 
+-- ---- the grammar by itself: a value has one reading
+
 sound-of : {t : ℕ} {v : Bytes} {a : Request} {d : Bytes} → Spells t v a d → Sound t a
 sound-of h = record { tagged = h .tagged; issued = h .issued; partied = h .partied; eight = h .eight }
 
@@ -38,7 +40,7 @@ module _ (t : ℕ) (v : Bytes) (a a′ : Request) (d d′ : Bytes) (h : Spells t
   one-reading =
       (same-request t a a′ d d′ (sound-of h) (sound-of h′) each-field, same-data t a a′ d d′ (sound-of h) (sound-of h′) each-field)
 
--- ---- the decoder and the grammar
+-- ---- the decoder, by the arguments of its command
 
 ended-at : (t n : ℕ) (r : Reading) → ended t n r .fits ≡ true → r .at ≡ n
 unfolding ended begun
@@ -54,13 +56,14 @@ module _ (t : ℕ) (v : Bytes) where
   decoded-none e =
       rw e (byTest (eqb (readAll v (begun false t) (replicate 5 0) .at) (length v)) (λ b. rw b (stuck v (replicate 5 0) (begun false t) refl)) (λ b. rw b))
 
+  -- read to its end, the data is the rest of the value
+  all-data : (q : Reading) → q .at ≡ length v → said v q ≡ drop (q .text) v
+  all-data q e = ap (λ (n : ℕ). part (q .text) n v) e ∙ rest-all v (q .text)
+
   module _ (ks : List ℕ) (known : argumentsOf t ≡ some ks) where
     decoded-by : decoded t v ≡ ended t (length v) (readAll v (begun true t) ks)
     unfolding decoded formOf
     decoded-by = rw (known, read-padded v (begun true t) 5 ks (arguments-ordered t ks known .1))
-
-    all-data : (q : Reading) → q .at ≡ length v → said v q ≡ drop (q .text) v
-    all-data q e = ap (λ (n : ℕ). part (q .text) n v) e ∙ rest-all v (q .text)
 
     known-spells : Below 256 v → decoded t v .fits ≡ true → Spells t v (decoded t v .asked) (drop (decoded t v .text) v)
     unfolding begun
@@ -83,6 +86,9 @@ module _ (t : ℕ) (v : Bytes) where
           absent = λ k x. ap (argument k (q .asked)) (sym data-is) ∙ read .others k x
         })
 
+  -- ---- the decoder and the grammar
+
+  -- what the decoder takes is a command's value, with that request and that data
   pub fits-spells : Below 256 v → decoded t v .fits ≡ true → Spells t v (decoded t v .asked) (drop (decoded t v .text) v)
   fits-spells bytes h = go (argumentsOf t) refl
     where
@@ -90,20 +96,22 @@ module _ (t : ℕ) (v : Bytes) where
       go none e = absurd (false≢true (sym (decoded-none e) ∙ h))
       go (some ks) e = known-spells ks e bytes h
 
+  -- a command's value is taken, with its request and its data; a length has two bytes
   pub spells-fits : (a : Request) (d : Bytes) → length d < 65536 → Spells t v a d → (decoded t v .fits ≡ true) × (decoded t v .asked ≡ a) × (drop (decoded t v .text) v ≡ d)
   unfolding begun
   spells-fits a d small h =
       let ks = h .arguments in
       let q = readAll v (begun true t) ks in
-      let c : Sound t a = record { tagged = h .tagged; issued = h .issued; partied = h .partied; eight = h .eight } in
+      let c = sound-of h in
       let done = spelled-read t v a d c small 0x80 ks (begun true t) (omega arith) (arguments-ordered t ks (h .known) .0) (λ x. refl) (blank-sound t) refl (omega arith) (h .value) (λ j x. sym (h .absent j x)) in
       let is : decoded t v ≡ q = decoded-by ks (h .known) ∙ ended-is t (length v) q (done .end) in
       rw is
       (done .fits,
       same-request t (q .asked) a (said v q) d (done .sound) c (done .says),
-      sym (all-data ks (h .known) q (done .end)) ∙ same-data t (q .asked) a (said v q) d (done .sound) c (done .says))
+      sym (all-data q (done .end)) ∙ same-data t (q .asked) a (said v q) d (done .sound) c (done .says))
 
 module _ (t : ℕ) (v : Bytes) (bytes : Below 256 v) (small : length v < 65536) where
+  -- refused is what has no reading; a value of the stream is as short as that
   pub misfit : decoded t v .fits ≡ false ↔ ((a : Request) (d : Bytes) → Spells t v a d → ⊥)
   misfit =
       (λ e a d h. false≢true (sym e ∙ spells-fits t v a d (omega (arith, data-short t v a d h)) h .0),
