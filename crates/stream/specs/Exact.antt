@@ -83,7 +83,7 @@ module _ (t : ℕ) (v : Bytes) where
           issued = read .sound .issued;
           partied = read .sound .partied;
           eight = read .sound .eight;
-          absent = λ k x. ap (argument k (q .asked)) (sym data-is) ∙ read .others k x
+          absent = λ k x. ap (argument k (q .asked)) (sym data-is) ∙ read .others k x;
         })
 
   -- ---- the decoder and the grammar
@@ -105,14 +105,16 @@ module _ (t : ℕ) (v : Bytes) where
       let c = sound-of h in
       let done = spelled-read t v a d c small 0x80 ks (begun true t) (omega arith) (arguments-ordered t ks (h .known) .0) (λ x. refl) (blank-sound t) refl (omega arith) (h .value) (λ j x. sym (h .absent j x)) in
       let is : decoded t v ≡ q = decoded-by ks (h .known) ∙ ended-is t (length v) q (done .end) in
-      rw is
-      (done .fits,
-      same-request t (q .asked) a (said v q) d (done .sound) c (done .says),
-      sym (all-data q (done .end)) ∙ same-data t (q .asked) a (said v q) d (done .sound) c (done .says))
+      rw is (
+        done .fits,
+        same-request t (q .asked) a (said v q) d (done .sound) c (done .says),
+        sym (all-data q (done .end)) ∙ same-data t (q .asked) a (said v q) d (done .sound) c (done .says),
+      )
 
 module _ (t : ℕ) (v : Bytes) (bytes : Below 256 v) (small : length v < 65536) where
   -- refused is what has no reading; a value of the stream is as short as that
   pub misfit : decoded t v .fits ≡ false ↔ ((a : Request) (d : Bytes) → Spells t v a d → ⊥)
-  misfit =
-      (λ e a d h. false≢true (sym e ∙ spells-fits t v a d (omega (arith, data-short t v a d h)) h .0),
-      λ none-fits. byTest (decoded t v .fits) (λ e. absurd (none-fits (decoded t v .asked) (drop (decoded t v .text) v) (fits-spells t v bytes e))) (λ e. e))
+  misfit = (
+    λ e a d h. false≢true (sym e ∙ spells-fits t v a d (omega (arith, data-short t v a d h)) h .0),
+    λ none-fits. byTest (decoded t v .fits) (λ e. absurd (none-fits (decoded t v .asked) (drop (decoded t v .text) v) (fits-spells t v bytes e))) (λ e. e),
+  )

@@ -124,13 +124,13 @@ module _ (t : ℕ) (v : Bytes) (all-bytes : Below 256 v) where
         let mine : tells v q k ≡ part s e v = read .others k (not-among k ks k (later n k ks up) (omega arith)) ∙ next-own v r k s e low high length-fits (λ h. part-bytes s e v all-bytes) in
         record {
           bytes = whole-is-field v (r .at) k s e all-bytes whole
-            ∙ ap₂ (λ (x y : Bytes). field k x ++ y) (sym mine) (read .bytes)
-            ∙ sym (append-assoc (field k (tells v q k)) (spelled ks (q .asked) (said v q)) (drop (q .at) v));
+              ∙ ap₂ (λ (x y : Bytes). field k x ++ y) (sym mine) (read .bytes)
+              ∙ sym (append-assoc (field k (tells v q k)) (spelled ks (q .asked) (said v q)) (drop (q .at) v));
           others = λ j x.
-            let y = neither (eqb j k) (among j ks) x in
-            let u = above n k ks up in
-            read .others j (y .1) ∙ next-other v r k s e low high j (y .0) (λ h. clear (omega arith));
-          sound = read .sound
+              let y = neither (eqb j k) (among j ks) x in
+              let u = above n k ks up in
+              read .others j (y .1) ∙ next-other v r k s e low high j (y .0) (λ h. clear (omega arith));
+          sound = read .sound;
         }
 
   pub fits-read : (n : ℕ) (ks : List ℕ) (r : Reading) → 0x80 ≤ n → ascending n ks ≡ true → (n < 0x87 → said v r ≡ []) → Sound t (r .asked)

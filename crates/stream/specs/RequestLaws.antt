@@ -161,7 +161,7 @@ module _ (t : ℕ) (a a′ : Request) (d d′ : Bytes) (c : Sound t a) (c′ : S
       let e₅ : a .block ≡ a′ .block = e 0x85 in
       let e₆ : a .second ≡ a′ .second = e 0x86 in
       let whole : made (a .tag) (a .issuer) (a .party) (a .interchange) (a .function) (a .block) (a .second)
-          ≡ made (a′ .tag) (a′ .issuer) (a′ .party) (a′ .interchange) (a′ .function) (a′ .block) (a′ .second) = cc in
+      ≡ made (a′ .tag) (a′ .issuer) (a′ .party) (a′ .interchange) (a′ .function) (a′ .block) (a′ .second) = cc in
       whole
 
   pub same-data : d ≡ d′
