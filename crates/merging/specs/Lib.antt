@@ -1,0 +1,3 @@
+pub mod Ids
+pub mod Demand3
+pub mod Places
