@@ -1,3 +1,4 @@
 pub mod Ids
 pub mod Demand3
 pub mod Places
+pub mod Tables
