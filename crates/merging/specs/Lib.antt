@@ -2,3 +2,4 @@ pub mod Ids
 pub mod Demand3
 pub mod Places
 pub mod Tables
+pub mod Commands
