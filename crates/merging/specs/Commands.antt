@@ -129,11 +129,8 @@ module _ (who : List ℕ) (a : Bytes) (w : World) (f : Fine who a w) (u : ℕ) (
       record {
         single = single w (by u (q .command)) (q .output) (f .single);
         outside = λ v n.
-            let d : eqb v u ≡ false = ne-eqb v u (λ r. apart v n r) in
+            let d : eqb v u ≡ false = ne-eqb v u (λ r. mem-apart u v who member n (sym r)) in
             seat-find (find v (carry u effect w .facility .places)) (find v (w .facility .places)) (ap (λ (o : Own). o .seat) (own-other v u effect w d)) ∙ f .outside v n;
         enough = rw (places-length u effect w) (f .enough);
         table = table-from a u effect w (f .table);
       }
-    where
-      apart : (v : ℕ) → mem v who ≡ false → v ≡ u → ⊥
-      apart v n r = true≢false (sym member ∙ rw (sym r) n)

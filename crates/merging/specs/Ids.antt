@@ -52,8 +52,8 @@ mem-once u (x ∷ xs) h =
     (λ m. rw m (byTest (eqb u x) (λ e. rw e) (λ e. rw e (mem-once u xs (rw e at h)))))
 
 -- who stands in a list is not one who does not
-pub mem-apart : (u v : ℕ) (xs : List ℕ) → mem u xs ≡ true → mem v xs ≡ false → eqb u v ≡ false
-mem-apart u v xs h n = ne-eqb u v (λ q. false≢true (sym n ∙ subst (λ (x : ℕ). mem x xs ≡ true) q h))
+pub mem-apart : (u v : ℕ) (xs : List ℕ) → mem u xs ≡ true → mem v xs ≡ false → u ≡ v → ⊥
+mem-apart u v xs h n q = false≢true (sym n ∙ subst (λ (x : ℕ). mem x xs ≡ true) q h)
 
 -- ---- different identifiers that all stand in a list are no more than the list is long
 
@@ -78,6 +78,6 @@ pub pigeonhole : (xs ys : List ℕ) → Distinct xs → ((u : ℕ) → mem u xs 
 pigeonhole [] ys d s = zero-le
 pigeonhole (x ∷ xs) ys d s =
     let ih : length xs ≤ length (remove x ys) =
-    pigeonhole xs (remove x ys) (d .1) (λ u h. remove-mem x u ys (mem-apart u x xs h (d .0)) (s u (mem-tail u x xs h))) in
+    pigeonhole xs (remove x ys) (d .1) (λ u h. remove-mem x u ys (ne-eqb u x (mem-apart u x xs h (d .0))) (s u (mem-tail u x xs h))) in
     let e : suc (length (remove x ys)) ≡ length ys = remove-length x ys (s x (mem-head x xs)) in
     omega arith

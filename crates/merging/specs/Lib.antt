@@ -3,3 +3,5 @@ pub mod Demand3
 pub mod Places
 pub mod Tables
 pub mod Commands
+pub mod Merges
+pub mod Theorem
