@@ -5,3 +5,4 @@ pub mod Tables
 pub mod Commands
 pub mod Merges
 pub mod Theorem
+pub mod Examples
