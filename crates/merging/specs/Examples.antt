@@ -1,66 +1,81 @@
--- Runs that are computed, so that no one takes the demand for empty. The cipher is shut: an entry is written as the password's seal, and a seal is the same as itself.
-use mathlib.Core.Path.{_≡_, refl, sym, ap, _∙_, subst}
+-- Runs that are computed, so that no one takes the demand for empty: its premises can be met, and without each of the two bounds on places it fails.
+use mathlib.Core.Path.{_≡_, refl, sym, ap, _∙_}
 use mathlib.Core.Bool.{Bool, true, false, cond}
 use mathlib.Core.Option.{Option, none, some}
 use mathlib.Core.List.{List, [], _∷_, _++_, map}
 use Prim.Native.Nat.{ℕ, zero, suc, _+_, _≤_}
-use lib.Dec.{eqb, lit≤}
+use native.Mathlib.Omega.{arith}
+use lib.Dec.{T, eqb, lit≤}
 use lib.ListN.{length, replicate}
-use borrow.Author.Tests.{eq-eqb}
-use Rattle.ground.specs.Lists.{entries, listed}
+use Rattle.ground.specs.Tests.{within, at-most}
 use Rattle.ground.specs.Rows.{row}
 use Rattle.cipher.specs.declared.modes.Mode.the-variants.{Cbce}
+use Rattle.cipher.specs.Cipher.{Octets, deciphered}
+use Rattle.cipher.proofs.Promise.{enciphered-deciphered}
+use Rattle.keys.specs.Keys.{notarized}
 use Rattle.state.specs.declared.Place.{Place}
-use Rattle.state.specs.State.{Bytes, noInterchangeKey, vacant, seat, bare, holders, find, give, leave, shutTo, seatOf, keyAt, named}
+use Rattle.state.specs.State.{Bytes, noInterchangeKey, vacant, seat, bare, holders, give, leave, shutTo, seatOf, keyAt, named}
 use Rattle.table.specs.Entries.{fits, idOf, entryIn, entryOf, enterIn, enter}
 use Rattle.table.specs.Passwords.{big, same, sealed, authentic}
-use Rattle.table.proofs.Laws.{sealed-eight}
-use Rattle.rules.specs.Commands.{UserCommand, RAS, LAU, CPW, GIV, LIV, LDK, mode, World, Told, numberOf, step, rule, refusals, modeRefusals, effect, test, modeSide, sideFor, functionOf, unknown, wrongPair, pairKey, withKey, bigPair, badLength, badBlocks}
+use Rattle.rules.specs.Commands.{UserCommand, RAS, LAU, CPW, GIV, LIV, LDK, mode, World, Told, numberOf, step}
+use Rattle.rules.specs.Commands.{rule, refusals, modeRefusals, effect, test, modeSide, functionOf, wrongPair, withKey, bigPair, badLength, badBlocks}
 use Rattle.properties.specs.Single.{Single}
 use Rattle.merging.specs.Ids.{different}
-use Rattle.merging.specs.Theorem.{demand-3}
 use Rattle.merging.specs.Demand3.{Request, Lists, Run, listOf, alone, Next, here, there, Finished, Merge, done, next, after, gets}
+use Rattle.merging.specs.Theorem.{demand-3}
 
--- ---- a facility with current key 1, and a table with the entries of 5 and 6, who have one password
+-- ---- passwords. The cipher is shut, but it promises that deciphering is undone: so a password can be given by its entry
 
-abbrev key : Bytes
+abbrev pub key : Bytes
 key = replicate 8 1
 
-abbrev password : Bytes
-password = 1 ∷ 2 ∷ 3 ∷ 4 ∷ 5 ∷ 6 ∷ 7 ∷ 8 ∷ []
+-- the password of u whose entry is x
+pub passwordOf : ℕ → Bytes → Bytes
+passwordOf u x = deciphered (notarized key u u) x
 
-abbrev seal : ℕ → Bytes
-seal u = entries 0 8 (sealed key u password)
+pub its-entry : (u : ℕ) (x : Bytes) → length x ≡ 8 → T (within 0 255 x) → sealed key u (passwordOf u x) ≡ x
+unfolding sealed passwordOf
+its-entry u x e t = enciphered-deciphered (notarized key u u) x (record { eight = e; small = λ i. let z = at-most 0 255 x t i in omega arith })
 
-abbrev entry : ℕ → Bytes
-entry u = 0 ∷ 0 ∷ 0 ∷ u ∷ seal u
+abbrev pub first : Bytes
+first = 1 ∷ 2 ∷ 3 ∷ 4 ∷ 5 ∷ 6 ∷ 7 ∷ 8 ∷ []
 
-abbrev start : List Place → World
-start ps = record {
+abbrev pub second : Bytes
+second = replicate 8 9
+
+pub entry-first : (u : ℕ) → sealed key u (passwordOf u first) ≡ first
+entry-first u = its-entry u first refl tt
+
+pub entry-second : (u : ℕ) → sealed key u (passwordOf u second) ≡ second
+entry-second u = its-entry u second refl tt
+
+-- ---- a facility with current key 1, a table with the entries of 5 and 6, and requests
+
+abbrev pub entry : ℕ → Bytes → Bytes
+entry u x = 0 ∷ 0 ∷ 0 ∷ u ∷ x
+
+abbrev pub with : List Place → Bytes → World
+with ps t = record {
   facility = record {
     «current_keys» = record { present = true; key = record { 0 = key } } ∷ replicate 14 noInterchangeKey;
     «old_keys» = replicate 15 noInterchangeKey;
     due = false;
     places = ps;
   };
-  table = entry 5 ++ entry 6;
+  table = t;
 }
 
-same-self : (a : Bytes) → same a a ≡ true
-unfolding same
-same-self [] = refl
-same-self (x ∷ xs) = rw (eq-eqb x x refl, same-self xs)
+abbrev pub start : List Place → World
+start ps = with ps (entry 5 first ++ entry 6 first)
 
-known : (u : ℕ) → authentic key u password (some (seal u)) ≡ true
-unfolding authentic
-known u = subst (λ (b : Bytes). same b (sealed key u password) ≡ true) (listed 8 (sealed key u password) (sealed-eight key u password)) (same-self (sealed key u password))
-
--- ---- requests, and the numbers that come of them
-
-abbrev ask : UserCommand → Request
+abbrev pub ask : UserCommand → Request
 ask c = record { command = c; output = replicate 9 9 }
 
-abbrev numbers : List Told → List ℕ
+-- u comes
+abbrev pub ras : ℕ → Request
+ras u = ask (RAS (passwordOf u first))
+
+abbrev pub numbers : List Told → List ℕ
 numbers = map (λ t. numberOf (t .answer))
 
 -- ---- three users: 5 and 6 come, 7 is there
@@ -69,10 +84,10 @@ abbrev block : Bytes
 block = replicate 8 0
 
 abbrev of5 : List Request
-of5 = ask (RAS password) ∷ ask (GIV block) ∷ ask LAU ∷ ask LAU ∷ []
+of5 = ras 5 ∷ ask (GIV block) ∷ ask LAU ∷ ask LAU ∷ []
 
 abbrev of6 : List Request
-of6 = ask (LIV 0x74 block) ∷ ask (RAS password) ∷ ask (RAS password) ∷ ask (CPW password block) ∷ []
+of6 = ask (LIV 0x74 block) ∷ ras 6 ∷ ask (CPW (passwordOf 6 first) (passwordOf 6 second)) ∷ ask LAU ∷ ras 6 ∷ []
 
 abbrev of7 : List Request
 of7 = ask (LDK 7 1 0x73 block) ∷ ask (mode Cbce block) ∷ ask LAU ∷ []
@@ -83,61 +98,71 @@ lists = (5, of5) ∷ (6, of6) ∷ (7, of7) ∷ []
 abbrev three : World
 three = start (vacant ∷ seat 7 bare ∷ replicate 14 vacant)
 
+-- each list alone
+alone-5 : numbers (gets step three (alone 5 of5) 5) ≡ 0 ∷ 10 ∷ 0 ∷ 3 ∷ []
+unfolding step rule refusals effect test give leave shutTo seatOf keyAt named fits idOf entryIn entryOf big row bare same authentic
+alone-5 = rw (entry-first 5)
+
+alone-6 : numbers (gets step three (alone 6 of6) 6) ≡ 3 ∷ 0 ∷ 0 ∷ 0 ∷ 9 ∷ []
+unfolding step rule refusals effect test give leave shutTo seatOf keyAt named fits idOf entryIn entryOf enterIn enter big row bare same authentic
+alone-6 = rw (entry-first 6, entry-first 6, entry-second 6, entry-first 6)
+
+alone-7 : numbers (gets step three (alone 7 of7) 7) ≡ 0 ∷ 11 ∷ 0 ∷ []
+unfolding step rule refusals modeRefusals modeSide effect test functionOf wrongPair withKey bigPair badLength badBlocks give leave shutTo seatOf keyAt named big bare
+alone-7 = refl
+
 -- two of the merges: one list after another, and mixed
 abbrev inTurn : Run
 inTurn = alone 7 of7 ++ (alone 5 of5 ++ alone 6 of6)
 
 abbrev mixed : Run
 mixed =
-    (6, ask (LIV 0x74 block)) ∷ (5, ask (RAS password)) ∷ (7, ask (LDK 7 1 0x73 block)) ∷ (6, ask (RAS password)) ∷ (5, ask (GIV block)) ∷ (5, ask LAU)
-    ∷ (6, ask (RAS password)) ∷ (7, ask (mode Cbce block)) ∷ (6, ask (CPW password block)) ∷ (7, ask LAU) ∷ (5, ask LAU) ∷ []
+    (6, ask (LIV 0x74 block)) ∷ (5, ras 5) ∷ (7, ask (LDK 7 1 0x73 block)) ∷ (6, ras 6) ∷ (5, ask (GIV block)) ∷ (5, ask LAU)
+    ∷ (6, ask (CPW (passwordOf 6 first) (passwordOf 6 second))) ∷ (7, ask (mode Cbce block)) ∷ (6, ask LAU) ∷ (7, ask LAU) ∷ (5, ask LAU) ∷ (6, ras 6) ∷ []
 
-nothing-left : Merge ((5, []) ∷ (6, []) ∷ (7, []) ∷ []) []
-nothing-left = let none-left : Finished ((5, []) ∷ (6, []) ∷ (7, []) ∷ []) = (refl, (refl, (refl, tt))) in done none-left
+end : Merge ((5, []) ∷ (6, []) ∷ (7, []) ∷ []) []
+end = let f : Finished ((5, []) ∷ (6, []) ∷ (7, []) ∷ []) = (refl, (refl, (refl, tt))) in done f
 
 inTurn-merge : Merge lists inTurn
 inTurn-merge =
     next (there (there here)) (next (there (there here)) (next (there (there here)) (next here (next here (next here (next here
-    (next (there here) (next (there here) (next (there here) (next (there here) nothing-left))))))))))
+    (next (there here) (next (there here) (next (there here) (next (there here) (next (there here) end)))))))))))
 
 mixed-merge : Merge lists mixed
 mixed-merge =
     next (there here) (next here (next (there (there here)) (next (there here) (next here (next here
-    (next (there here) (next (there (there here)) (next (there here) (next (there (there here)) (next here nothing-left))))))))))
+    (next (there here) (next (there (there here)) (next (there here) (next (there (there here)) (next here (next (there here) end)))))))))))
 
--- each user's list alone
-alone-5 : numbers (gets step three (alone 5 of5) 5) ≡ 0 ∷ 10 ∷ 0 ∷ 3 ∷ []
-unfolding step rule refusals effect test give leave shutTo seatOf keyAt named fits idOf entryIn entryOf big row bare
-alone-5 = rw (known 5)
+-- the premises are met: so each gets the same in every merge as alone
+module _ (m : Run) (g : Merge lists m) where
+  one : Single (three .facility .places)
+  one u = at-most-one (eqb u 7)
+    where
+      at-most-one : (b : Bool) → cond b 1 0 ≤ 1
+      at-most-one true = lit≤ tt
+      at-most-one false = lit≤ tt
 
-alone-6 : numbers (gets step three (alone 6 of6) 6) ≡ 3 ∷ 0 ∷ 4 ∷ 0 ∷ []
-unfolding step rule refusals effect test give leave shutTo seatOf keyAt named fits idOf entryIn entryOf big row bare
-alone-6 = rw (known 6, known 6)
+  as-alone : (u : ℕ) → gets step three m u ≡ gets step three (alone u (listOf u lists)) u
+  as-alone = demand-3 three refl one lists (refl, (refl, (refl, tt))) (lit≤ tt) m g .0
 
-alone-7 : numbers (gets step three (alone 7 of7) 7) ≡ 0 ∷ 11 ∷ 0 ∷ []
-unfolding step rule refusals modeRefusals modeSide effect test functionOf wrongPair withKey bigPair badLength badBlocks give leave shutTo seatOf keyAt named big bare
-alone-7 = refl
+  any-merge : (numbers (gets step three m 5) ≡ 0 ∷ 10 ∷ 0 ∷ 3 ∷ []) × (numbers (gets step three m 6) ≡ 3 ∷ 0 ∷ 0 ∷ 0 ∷ 9 ∷ []) × (numbers (gets step three m 7) ≡ 0 ∷ 11 ∷ 0 ∷ [])
+  any-merge = (ap numbers (as-alone 5) ∙ alone-5, ap numbers (as-alone 6) ∙ alone-6, ap numbers (as-alone 7) ∙ alone-7)
 
-one : Single (three .facility .places)
-one u = at-most (eqb u 7)
-  where
-    at-most : (b : Bool) → cond b 1 0 ≤ 1
-    at-most true = lit≤ tt
-    at-most false = lit≤ tt
+  -- and it leaves the same table
+  one-table : after step three m .table ≡ after step three inTurn .table
+  one-table = demand-3 three refl one lists (refl, (refl, (refl, tt))) (lit≤ tt) m g .1 inTurn inTurn-merge .0
 
--- the premises are met, so it is the same in every merge
-any-merge : (m : Run) → Merge lists m → (numbers (gets step three m 5) ≡ 0 ∷ 10 ∷ 0 ∷ 3 ∷ []) × (numbers (gets step three m 6) ≡ 3 ∷ 0 ∷ 4 ∷ 0 ∷ []) × (numbers (gets step three m 7) ≡ 0 ∷ 11 ∷ 0 ∷ [])
-any-merge m g =
-    let as-alone : (u : ℕ) → gets step three m u ≡ gets step three (alone u (listOf u lists)) u = demand-3 three refl one lists (refl, (refl, (refl, tt))) (lit≤ tt) m g .0 in
-    (ap numbers (as-alone 5) ∙ alone-5, ap numbers (as-alone 6) ∙ alone-6, ap numbers (as-alone 7) ∙ alone-7)
+-- the table that it leaves: 7 and 5 have gone when 6 comes
+gone : after step three (alone 7 of7 ++ alone 5 of5) ≡ start (replicate 16 vacant)
+unfolding step rule refusals modeRefusals modeSide effect test functionOf wrongPair withKey bigPair badLength badBlocks give leave shutTo seatOf keyAt named fits idOf entryIn entryOf big row bare same authentic
+gone = rw (entry-first 5)
 
-two-merges : after step three inTurn .table ≡ after step three mixed .table
-two-merges = demand-3 three refl one lists (refl, (refl, (refl, tt))) (lit≤ tt) inTurn inTurn-merge .1 mixed mixed-merge .0
+changed : after step (start (replicate 16 vacant)) (alone 6 of6) .table ≡ entry 5 first ++ entry 6 second
+unfolding step rule refusals effect test give leave shutTo seatOf keyAt named fits idOf entryIn entryOf enterIn enter big row bare same authentic
+changed = rw (entry-first 6, entry-first 6, entry-second 6, entry-first 6)
 
--- the same as computed, with no theorem
-in-turn-5 : numbers (gets step three inTurn 5) ≡ 0 ∷ 10 ∷ 0 ∷ 3 ∷ []
-unfolding step rule refusals modeRefusals modeSide effect test sideFor functionOf unknown wrongPair withKey pairKey bigPair badLength badBlocks give leave shutTo seatOf keyAt named fits idOf entryIn entryOf big row bare
-in-turn-5 = rw (known 5)
+mixed-table : after step three mixed .table ≡ entry 5 first ++ entry 6 second
+mixed-table = one-table mixed mixed-merge ∙ ap (λ (w : World). after step w (alone 6 of6) .table) gone ∙ changed
 
 -- ---- seventeen: with 15 places held by others, the second of two users finds no place, whom the list alone admits
 
@@ -145,32 +170,22 @@ abbrev crowd : ℕ → List Place
 crowd zero = []
 crowd (suc n) = seat (100 + n) bare ∷ crowd n
 
-abbrev room1 : World
-room1 = start (crowd 15 ++ (vacant ∷ []))
+abbrev nearlyFull : World
+nearlyFull = start (crowd 15 ++ (vacant ∷ []))
 
-seventeen : different (5 ∷ 6 ∷ holders (room1 .facility .places)) ≡ 17
-seventeen = refl
+seventeen : (different (5 ∷ 6 ∷ holders (nearlyFull .facility .places)) ≡ 17)
+    × (numbers (gets step nearlyFull ((5, ras 5) ∷ (6, ras 6) ∷ []) 6) ≡ 8 ∷ [])
+    × (numbers (gets step nearlyFull (alone 6 (ras 6 ∷ [])) 6) ≡ 0 ∷ [])
+unfolding step rule refusals effect test give leave shutTo seatOf keyAt named fits idOf entryIn entryOf big row same authentic
+seventeen = (refl, rw (entry-first 5), rw (entry-first 6))
 
-seventeen-merged : numbers (gets step room1 ((5, ask (RAS password)) ∷ (6, ask (RAS password)) ∷ []) 6) ≡ 8 ∷ []
-unfolding step rule refusals effect test give leave shutTo seatOf keyAt named fits idOf entryIn entryOf big row
-seventeen-merged = rw (known 5)
-
-seventeen-alone : numbers (gets step room1 (alone 6 (ask (RAS password) ∷ [])) 6) ≡ 0 ∷ []
-unfolding step rule refusals effect test give leave shutTo seatOf keyAt named fits idOf entryIn entryOf big row
-seventeen-alone = rw (known 6)
-
--- ---- one identifier in two places: with them 16 places are taken by 15 identifiers, and 6 is the sixteenth
+-- ---- 5 in two places: sixteen identifiers, and yet no place for 6 until 5 has gone
 
 abbrev doubled : World
 doubled = start (seat 5 bare ∷ seat 5 bare ∷ crowd 14)
 
-sixteen : different (5 ∷ 6 ∷ holders (doubled .facility .places)) ≡ 16
-sixteen = refl
-
-doubled-merged : numbers (gets step doubled ((5, ask LAU) ∷ (6, ask (RAS password)) ∷ []) 6) ≡ 0 ∷ []
-unfolding step rule refusals effect test give leave shutTo seatOf keyAt named fits idOf entryIn entryOf big row
-doubled-merged = rw (known 6)
-
-doubled-alone : numbers (gets step doubled (alone 6 (ask (RAS password) ∷ [])) 6) ≡ 8 ∷ []
-unfolding step rule refusals effect test give leave shutTo seatOf keyAt named fits idOf entryIn entryOf big row
-doubled-alone = refl
+two-places : (different (5 ∷ 6 ∷ holders (doubled .facility .places)) ≡ 16)
+    × (numbers (gets step doubled ((5, ask LAU) ∷ (6, ras 6) ∷ []) 6) ≡ 0 ∷ [])
+    × (numbers (gets step doubled (alone 6 (ras 6 ∷ [])) 6) ≡ 8 ∷ [])
+unfolding step rule refusals effect test give leave shutTo seatOf keyAt named fits idOf entryIn entryOf big row same authentic
+two-places = (refl, rw (entry-first 6), refl)
