@@ -55,6 +55,15 @@ mem-once u (x ∷ xs) h =
 pub mem-apart : (u v : ℕ) (xs : List ℕ) → mem u xs ≡ true → mem v xs ≡ false → u ≡ v → ⊥
 mem-apart u v xs h n q = false≢true (sym n ∙ subst (λ (x : ℕ). mem x xs ≡ true) q h)
 
+-- the same as a test
+abbrev pub distinct : List ℕ → Bool
+distinct [] = true
+distinct (x ∷ xs) = cond (mem x xs) false (distinct xs)
+
+pub distinct-by : (xs : List ℕ) → distinct xs ≡ true → Distinct xs
+distinct-by [] e = tt
+distinct-by (x ∷ xs) e = byTest (mem x xs) (λ m. absurd (false≢true (rw m at e))) (λ m. (m, distinct-by xs (rw m at e)))
+
 -- ---- different identifiers that all stand in a list are no more than the list is long
 
 remove : ℕ → List ℕ → List ℕ

@@ -6,3 +6,4 @@ pub mod Commands
 pub mod Merges
 pub mod Theorem
 pub mod Examples
+pub mod Faults

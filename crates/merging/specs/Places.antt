@@ -5,7 +5,7 @@ use mathlib.Core.Option.{Option, none, some}
 use mathlib.Core.List.{List, [], _∷_}
 use Prim.Native.Nat.{ℕ, suc, _≤_}
 use native.Mathlib.Omega.{arith}
-use lib.Dec.{eqb}
+use lib.Dec.{eqb, lit≤}
 use lib.ListN.{length}
 use borrow.Author.Tests.{eqb-true, eqb-false, eq-eqb, ne-eqb}
 use Rattle.ground.specs.Search.{byTest}
@@ -13,7 +13,7 @@ use Rattle.state.specs.declared.Holdings.{Holdings}
 use Rattle.state.specs.declared.Place.{Place}
 use Rattle.state.specs.State.{vacant, seat, has, holders, find, allTaken, put, admit, give, giveTo, leave, shutTo}
 use Rattle.properties.specs.Single.{count, Single}
-use Rattle.merging.specs.Ids.{mem, Distinct, pigeonhole}
+use Rattle.merging.specs.Ids.{mem, Distinct, distinct, distinct-by, pigeonhole}
 
 -- a place is u's, another's, or free
 byPlace {ℓ} : {P : Type ℓ} (u : ℕ) (p : Place)
@@ -132,6 +132,27 @@ single-distinct (p ∷ ps) s =
         let z : has (p .user) p ≡ true = rw k (eq-eqb (p .user) (p .user) refl) in
         let n : suc (count (p .user) ps) ≤ 1 = rw z at (s (p .user)) in
         omega arith
+
+absent : (u : ℕ) (ps : List Place) → mem u (holders ps) ≡ false → count u ps ≤ 0
+absent u [] n = lit≤ tt
+absent u (p ∷ ps) n =
+    byPlace u p (λ k e. absurd (true≢false (rw (k, e) at n))) (λ k e. rw (k, e) (absent u ps (rw (k, e) at n))) (λ k. rw k (absent u ps (rw k at n)))
+
+-- and back, by the test
+pub single-by : (ps : List Place) → distinct (holders ps) ≡ true → Single ps
+single-by ps t = from ps (distinct-by (holders ps) t)
+  where
+    from : (ps : List Place) → Distinct (holders ps) → Single ps
+    from [] d u = lit≤ tt
+    from (p ∷ ps) d u =
+        byPlace u p
+        (λ k e.
+        let d′ : Distinct (p .user ∷ holders ps) = rw k at d in
+        let z : count u ps ≤ 0 = absent u ps (rw (eqb-true u (p .user) e) (d′ .0)) in
+        let g : suc (count u ps) ≤ 1 = omega arith in
+        rw (k, e) g)
+        (λ k e. let d′ : Distinct (p .user ∷ holders ps) = rw k at d in rw (k, e) (from ps (d′ .1) u))
+        (λ k. rw k (from ps (rw k at d) u))
 
 taken-length : (ps : List Place) → allTaken ps ≡ true → length (holders ps) ≡ length ps
 taken-length [] a = refl
