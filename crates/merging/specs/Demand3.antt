@@ -42,7 +42,7 @@ abbrev pub alone : ℕ → List Request → Run
 alone u [] = []
 alone u (q ∷ qs) = (u, q) ∷ alone u qs
 
--- the lists, then u's next request q, then what is left of the lists
+-- q is the next request of u's list, and `rest` is what is then left of the lists
 pub data Next : Lists → ℕ → Request → Lists → Type 0 where
   here : {u : ℕ} {q : Request} {qs : List Request} {ls : Lists} → Next ((u, q ∷ qs) ∷ ls) u q ((u, qs) ∷ ls)
   there : {l : ℕ × List Request} {ls rest : Lists} {u : ℕ} {q : Request} → Next ls u q rest → Next (l ∷ ls) u q (l ∷ rest)

@@ -21,7 +21,8 @@ use Rattle.rules.specs.Commands.{UserCommand, RAS, LAU, CPW, GIV, LIV, LDK, mod
 use Rattle.rules.specs.Commands.{rule, refusals, modeRefusals, effect, test, modeSide, functionOf, wrongPair, withKey, bigPair, badLength, badBlocks}
 use Rattle.properties.specs.Single.{Single}
 use Rattle.merging.specs.Ids.{different}
-use Rattle.merging.specs.Demand3.{Request, Lists, Run, listOf, alone, Next, here, there, Finished, Merge, done, next, after, gets}
+use Rattle.merging.specs.Demand3.{Request, Lists, Run, users, listOf, alone, Next, here, there, Finished, Merge, done, next, after, gets}
+use Rattle.merging.specs.Places.{single-by}
 use Rattle.merging.specs.Theorem.{demand-3}
 
 -- ---- passwords. The cipher is shut, but it promises that deciphering is undone: so a password can be given by its entry
@@ -72,8 +73,8 @@ abbrev pub ask : UserCommand → Request
 ask c = record { command = c; output = replicate 9 9 }
 
 -- u comes
-abbrev pub ras : ℕ → Request
-ras u = ask (RAS (passwordOf u first))
+abbrev pub comes : ℕ → Request
+comes u = ask (RAS (passwordOf u first))
 
 abbrev pub numbers : List Told → List ℕ
 numbers = map (λ t. numberOf (t .answer))
@@ -84,10 +85,10 @@ abbrev block : Bytes
 block = replicate 8 0
 
 abbrev of5 : List Request
-of5 = ras 5 ∷ ask (GIV block) ∷ ask LAU ∷ ask LAU ∷ []
+of5 = comes 5 ∷ ask (GIV block) ∷ ask LAU ∷ ask LAU ∷ []
 
 abbrev of6 : List Request
-of6 = ask (LIV 0x74 block) ∷ ras 6 ∷ ask (CPW (passwordOf 6 first) (passwordOf 6 second)) ∷ ask LAU ∷ ras 6 ∷ []
+of6 = ask (LIV 0x74 block) ∷ comes 6 ∷ ask (CPW (passwordOf 6 first) (passwordOf 6 second)) ∷ ask LAU ∷ comes 6 ∷ []
 
 abbrev of7 : List Request
 of7 = ask (LDK 7 1 0x73 block) ∷ ask (mode Cbce block) ∷ ask LAU ∷ []
@@ -117,8 +118,8 @@ inTurn = alone 7 of7 ++ (alone 5 of5 ++ alone 6 of6)
 
 abbrev mixed : Run
 mixed =
-    (6, ask (LIV 0x74 block)) ∷ (5, ras 5) ∷ (7, ask (LDK 7 1 0x73 block)) ∷ (6, ras 6) ∷ (5, ask (GIV block)) ∷ (5, ask LAU)
-    ∷ (6, ask (CPW (passwordOf 6 first) (passwordOf 6 second))) ∷ (7, ask (mode Cbce block)) ∷ (6, ask LAU) ∷ (7, ask LAU) ∷ (5, ask LAU) ∷ (6, ras 6) ∷ []
+    (6, ask (LIV 0x74 block)) ∷ (5, comes 5) ∷ (7, ask (LDK 7 1 0x73 block)) ∷ (6, comes 6) ∷ (5, ask (GIV block)) ∷ (5, ask LAU)
+    ∷ (6, ask (CPW (passwordOf 6 first) (passwordOf 6 second))) ∷ (7, ask (mode Cbce block)) ∷ (6, ask LAU) ∷ (7, ask LAU) ∷ (5, ask LAU) ∷ (6, comes 6) ∷ []
 
 end : Merge ((5, []) ∷ (6, []) ∷ (7, []) ∷ []) []
 end = let f : Finished ((5, []) ∷ (6, []) ∷ (7, []) ∷ []) = (refl, (refl, (refl, tt))) in done f
@@ -135,22 +136,18 @@ mixed-merge =
 
 -- the premises are met: so each gets the same in every merge as alone
 module _ (m : Run) (g : Merge lists m) where
-  one : Single (three .facility .places)
-  one u = at-most-one (eqb u 7)
-    where
-      at-most-one : (b : Bool) → cond b 1 0 ≤ 1
-      at-most-one true = lit≤ tt
-      at-most-one false = lit≤ tt
+  single : Single (three .facility .places)
+  single = single-by (three .facility .places) refl
 
   as-alone : (u : ℕ) → gets step three m u ≡ gets step three (alone u (listOf u lists)) u
-  as-alone = demand-3 three refl one lists (refl, (refl, (refl, tt))) (lit≤ tt) m g .0
+  as-alone = demand-3 three refl single lists (refl, (refl, (refl, tt))) (lit≤ tt) m g .0
 
   any-merge : (numbers (gets step three m 5) ≡ 0 ∷ 10 ∷ 0 ∷ 3 ∷ []) × (numbers (gets step three m 6) ≡ 3 ∷ 0 ∷ 0 ∷ 0 ∷ 9 ∷ []) × (numbers (gets step three m 7) ≡ 0 ∷ 11 ∷ 0 ∷ [])
   any-merge = (ap numbers (as-alone 5) ∙ alone-5, ap numbers (as-alone 6) ∙ alone-6, ap numbers (as-alone 7) ∙ alone-7)
 
   -- and it leaves the same table
   one-table : after step three m .table ≡ after step three inTurn .table
-  one-table = demand-3 three refl one lists (refl, (refl, (refl, tt))) (lit≤ tt) m g .1 inTurn inTurn-merge .0
+  one-table = demand-3 three refl single lists (refl, (refl, (refl, tt))) (lit≤ tt) m g .1 inTurn inTurn-merge .0
 
 -- the table that it leaves: 7 and 5 have gone when 6 comes
 gone : after step three (alone 7 of7 ++ alone 5 of5) ≡ start (replicate 16 vacant)
@@ -164,7 +161,7 @@ changed = rw (entry-first 6, entry-first 6, entry-second 6, entry-first 6)
 mixed-table : after step three mixed .table ≡ entry 5 first ++ entry 6 second
 mixed-table = one-table mixed mixed-merge ∙ ap (λ (w : World). after step w (alone 6 of6) .table) gone ∙ changed
 
--- ---- seventeen: with 15 places held by others, the second of two users finds no place, whom the list alone admits
+-- ---- seventeen: with 15 places held by others, the second of two users finds no place, whom his list alone admits
 
 abbrev crowd : ℕ → List Place
 crowd zero = []
@@ -173,19 +170,32 @@ crowd (suc n) = seat (100 + n) bare ∷ crowd n
 abbrev nearlyFull : World
 nearlyFull = start (crowd 15 ++ (vacant ∷ []))
 
-seventeen : (different (5 ∷ 6 ∷ holders (nearlyFull .facility .places)) ≡ 17)
-    × (numbers (gets step nearlyFull ((5, ras 5) ∷ (6, ras 6) ∷ []) 6) ≡ 8 ∷ [])
-    × (numbers (gets step nearlyFull (alone 6 (ras 6 ∷ [])) 6) ≡ 0 ∷ [])
+-- the two lists that fail, and the merge in which they do
+abbrev two : Request → Lists
+two q = (5, q ∷ []) ∷ (6, comes 6 ∷ []) ∷ []
+
+abbrev then6 : Request → Run
+then6 q = (5, q) ∷ (6, comes 6) ∷ []
+
+then6-merge : (q : Request) → Merge (two q) (then6 q)
+then6-merge q = let f : Finished ((5, []) ∷ (6, []) ∷ []) = (refl, (refl, tt)) in next here (next (there here) (done f))
+
+seventeen : (length (nearlyFull .facility .places) ≡ 16)
+    × Single (nearlyFull .facility .places)
+    × (different (users (two (comes 5)) ++ holders (nearlyFull .facility .places)) ≡ 17)
+    × (numbers (gets step nearlyFull (then6 (comes 5)) 6) ≡ 8 ∷ [])
+    × (numbers (gets step nearlyFull (alone 6 (listOf 6 (two (comes 5)))) 6) ≡ 0 ∷ [])
 unfolding step rule refusals effect test give leave shutTo seatOf keyAt named fits idOf entryIn entryOf big row same authentic
-seventeen = (refl, rw (entry-first 5), rw (entry-first 6))
+seventeen = (refl, single-by (nearlyFull .facility .places) refl, refl, rw (entry-first 5), rw (entry-first 6))
 
 -- ---- 5 in two places: sixteen identifiers, and yet no place for 6 until 5 has gone
 
 abbrev doubled : World
 doubled = start (seat 5 bare ∷ seat 5 bare ∷ crowd 14)
 
-two-places : (different (5 ∷ 6 ∷ holders (doubled .facility .places)) ≡ 16)
-    × (numbers (gets step doubled ((5, ask LAU) ∷ (6, ras 6) ∷ []) 6) ≡ 0 ∷ [])
-    × (numbers (gets step doubled (alone 6 (ras 6 ∷ [])) 6) ≡ 8 ∷ [])
+two-places : (length (doubled .facility .places) ≡ 16)
+    × (different (users (two (ask LAU)) ++ holders (doubled .facility .places)) ≡ 16)
+    × (numbers (gets step doubled (then6 (ask LAU)) 6) ≡ 0 ∷ [])
+    × (numbers (gets step doubled (alone 6 (listOf 6 (two (ask LAU)))) 6) ≡ 8 ∷ [])
 unfolding step rule refusals effect test give leave shutTo seatOf keyAt named fits idOf entryIn entryOf big row same authentic
-two-places = (refl, rw (entry-first 6), refl)
+two-places = (refl, refl, rw (entry-first 6), refl)

@@ -1,5 +1,5 @@
 -- Three faults that the demand rules out. Each is `step` but for one thing, and of each it is proved that the demand does not hold.
-use mathlib.Core.Path.{_≡_, refl, sym, ap, _∙_}
+use mathlib.Core.Path.{_≡_, refl, sym, ap, _∙_, subst, fun-ext}
 use mathlib.Core.Bool.{Bool, true, false, cond}
 use mathlib.Core.List.{List, [], _∷_, _++_, head-eq-of-cons-eq}
 use Prim.Native.Nat.{ℕ, zero, suc, _≤_}
@@ -8,34 +8,39 @@ use lib.Dec.{eqb, lit≤}
 use lib.ListN.{length, replicate, take, drop}
 use Rattle.ground.specs.Rows.{row}
 use Rattle.state.specs.declared.Place.{Place}
-use Rattle.state.specs.declared.Seat.{Seat}
-use Rattle.state.specs.State.{Bytes, vacant, seat, bare, find, holders, withPlaces, give, leave, shutTo, seatOf, keyAt, named}
+use Rattle.state.specs.State.{Bytes, vacant, seat, bare, holders, withPlaces, leave, shutTo, seatOf, keyAt, named}
 use Rattle.table.specs.Entries.{fits, idOf, entryIn, entryOf}
 use Rattle.table.specs.Passwords.{big, same, authentic}
-use Rattle.rules.specs.Commands.{UserCommand, RAS, LAU, CPW, GDK, LDK, GIV, LIV, EIV, RDK, mode, DAUT, Command, by, EIK, IPW, RPW, logout}
-use Rattle.rules.specs.Commands.{Own, Effect, refused, gives, keeps, leaves, enters, writes, World, over, own, shutFor, carry, told, result, rule, refusals, effect, test, step}
-use Rattle.properties.specs.Single.{Single}
+use Rattle.rules.specs.Commands.{LAU, CPW, Command, by, EIK, IPW, RPW, logout}
+use Rattle.rules.specs.Commands.{Effect, refused, gives, keeps, leaves, enters, writes, World, over, own, shutFor, carry, told, result, rule, refusals, effect, test, step}
 use Rattle.merging.specs.Ids.{distinct, different}
-use Rattle.merging.specs.Demand3.{Request, Lists, Run, users, listOf, alone, here, there, Finished, Merge, done, next, Step, gets, Undisturbed}
+use Rattle.merging.specs.Demand3.{Request, Lists, alone, here, there, Finished, Merge, done, next, Step, gets, Undisturbed}
+use Rattle.merging.specs.Theorem.{demand-3}
 use Rattle.merging.specs.Places.{single-by}
-use Rattle.merging.specs.Examples.{passwordOf, first, second, entry-first, entry-second, start, ask, ras, numbers}
+use Rattle.merging.specs.Examples.{passwordOf, first, second, entry-first, entry-second, start, ask, comes, numbers}
 
--- `step`, where users' commands look by `looks` and alter by `alters`
-abbrev stepBy : (UserCommand → ℕ → World → Own) → (ℕ → Effect → World → World) → Step
-stepBy looks alters w (by u c) out = result (told (rule u c out (shutFor u w) (looks c u w)) out) (alters u (rule u c out (shutFor u w) (looks c u w)) w)
-stepBy looks alters w (EIK i k) out = step w (EIK i k) out
-stepBy looks alters w (IPW u p) out = step w (IPW u p) out
-stepBy looks alters w RPW out = step w RPW out
-stepBy looks alters w (logout u) out = step w (logout u) out
+-- `step`, where it is told by `shuts` whether RAS finds no place, and users' commands alter the world by `alters`
+abbrev stepBy : (ℕ → World → Bool) → (ℕ → Effect → World → World) → Step
+stepBy shuts alters w (by u c) out = result (told (rule u c out (shuts u w) (own u w)) out) (alters u (rule u c out (shuts u w) (own u w)) w)
+stepBy shuts alters w (EIK i k) out = step w (EIK i k) out
+stepBy shuts alters w (IPW u p) out = step w (IPW u p) out
+stepBy shuts alters w RPW out = step w RPW out
+stepBy shuts alters w (logout u) out = step w (logout u) out
 
--- with `own` and `carry` it is `step`
-no-fault : (w : World) (c : Command) (out : Bytes) → stepBy (λ c. own) carry w c out ≡ step w c out
+-- with no fault it is `step`, and the demand holds
+abbrev faultless : Step
+faultless = stepBy shutFor carry
+
+is-step : (w : World) (c : Command) (out : Bytes) → faultless w c out ≡ step w c out
 unfolding step
-no-fault w (by u c) out = refl
-no-fault w (EIK i k) out = refl
-no-fault w (IPW u p) out = refl
-no-fault w RPW out = refl
-no-fault w (logout u) out = refl
+is-step w (by u c) out = refl
+is-step w (EIK i k) out = refl
+is-step w (IPW u p) out = refl
+is-step w RPW out = refl
+is-step w (logout u) out = refl
+
+pub no-fault : Undisturbed faultless
+no-fault = subst Undisturbed (sym (fun-ext λ w. fun-ext λ c. fun-ext λ out. is-step w c out)) demand-3
 
 -- ---- LAU frees the first place rather than the issuer's
 
@@ -61,34 +66,14 @@ entersFirst u leaves w = carry u leaves w
 entersFirst u (enters b p) w = over (w .facility) (take 4 (w .table) ++ (b ++ drop 12 (w .table)))
 entersFirst u (writes b h) w = carry u (writes b h) w
 
--- ---- RAS looks at the first place rather than at the issuer's
+-- ---- RAS looks at the first place, whoever has it, and at no other: 8 where it is taken
 
-abbrev firstSeat : List Place → Seat
-firstSeat [] = record { active = false; holdings = bare }
-firstSeat (p ∷ ps) = record { active = p .taken; holdings = p .holdings }
+abbrev firstTaken : List Place → Bool
+firstTaken [] = true
+firstTaken (p ∷ ps) = p .taken
 
-abbrev atFirst : ℕ → World → Own
-atFirst u w = record {
-  current = own u w .current;
-  old = own u w .old;
-  due = own u w .due;
-  fits = own u w .fits;
-  entry = own u w .entry;
-  seat = firstSeat (w .facility .places);
-}
-
-abbrev looksAtFirst : UserCommand → ℕ → World → Own
-looksAtFirst (RAS p) = atFirst
-looksAtFirst LAU = own
-looksAtFirst (CPW p n) = own
-looksAtFirst (GDK p i b) = own
-looksAtFirst (LDK p i f b) = own
-looksAtFirst (GIV b) = own
-looksAtFirst (LIV f b) = own
-looksAtFirst (EIV b) = own
-looksAtFirst (RDK p i f b) = own
-looksAtFirst (mode m d) = own
-looksAtFirst (DAUT f d) = own
+abbrev looksAtFirst : ℕ → World → Bool
+looksAtFirst u w = firstTaken (w .facility .places)
 
 -- ---- what rules them out: 5 and 6 each ask for one thing, 6 is served first, and 5 does not get what he gets alone
 
@@ -104,17 +89,17 @@ ruled-out fault ps sixteen single few of5 of6 n k p q d h =
     let same-answers = h (start ps) sixteen (single-by ps single) lists (refl, (refl, tt)) few ((6, of6) ∷ (5, of5) ∷ []) (next (there here) (next here end)) .0 5 in
     d (head-eq-of-cons-eq (sym p ∙ ap numbers same-answers ∙ q))
 
-lau : Undisturbed (stepBy (λ c. own) freesFirst) → ⊥
+pub lau : Undisturbed (stepBy shutFor freesFirst) → ⊥
 unfolding rule refusals effect test shutTo seatOf big
-lau = ruled-out (stepBy (λ c. own) freesFirst) (seat 5 bare ∷ seat 6 bare ∷ replicate 14 vacant) refl refl (lit≤ tt) (ask LAU) (ask LAU) 3 0 refl refl (λ e. omega arith)
+lau = ruled-out (stepBy shutFor freesFirst) (seat 5 bare ∷ seat 6 bare ∷ replicate 14 vacant) refl refl (lit≤ tt) (ask LAU) (ask LAU) 3 0 refl refl (λ e. omega arith)
 
-cpw : Undisturbed (stepBy (λ c. own) entersFirst) → ⊥
+pub cpw : Undisturbed (stepBy shutFor entersFirst) → ⊥
 unfolding rule refusals effect test shutTo seatOf keyAt named fits idOf entryIn entryOf big row same authentic
 cpw =
-    ruled-out (stepBy (λ c. own) entersFirst) (seat 5 bare ∷ seat 6 bare ∷ replicate 14 vacant) refl refl (lit≤ tt)
+    ruled-out (stepBy shutFor entersFirst) (seat 5 bare ∷ seat 6 bare ∷ replicate 14 vacant) refl refl (lit≤ tt)
     (ask (CPW (passwordOf 5 first) (passwordOf 5 second))) (ask (CPW (passwordOf 6 first) (passwordOf 6 second))) 9 0
     (rw (entry-first 6, entry-second 6, entry-first 5)) (rw (entry-first 5)) (λ e. omega arith)
 
-ras-fault : Undisturbed (stepBy looksAtFirst carry) → ⊥
-unfolding rule refusals effect test leave shutTo seatOf keyAt named fits idOf entryIn entryOf big row same authentic
-ras-fault = ruled-out (stepBy looksAtFirst carry) (seat 6 bare ∷ replicate 15 vacant) refl refl (lit≤ tt) (ras 5) (ask LAU) 0 4 (rw (entry-first 5)) refl (λ e. omega arith)
+pub ras : Undisturbed (stepBy looksAtFirst carry) → ⊥
+unfolding rule refusals effect test leave seatOf keyAt named fits idOf entryIn entryOf big row same authentic
+ras = ruled-out (stepBy looksAtFirst carry) (seat 6 bare ∷ replicate 15 vacant) refl refl (lit≤ tt) (comes 5) (ask LAU) 0 8 (rw (entry-first 5)) refl (λ e. omega arith)

@@ -15,7 +15,7 @@ use Rattle.merging.specs.Ids.{mem, Distinct, once, different, mem-left, 
 use Rattle.merging.specs.Demand3.{Request, Lists, Run, users, listOf, alone, Merge, serve, after, gets, holds, Undisturbed}
 use Rattle.merging.specs.Places.{find-none}
 use Rattle.merging.specs.Tables.{from-self, from-ext}
-use Rattle.merging.specs.Commands.{Fine, does, then, seat-find, answer, own-then, own-stays, fine-then}
+use Rattle.merging.specs.OneCommand.{Fine, does, then, seat-find, answer, own-then, own-stays, fine-then}
 use Rattle.merging.specs.Merges.{of, Picked, merge-picked, no-list}
 
 -- ---- u's requests one after another, by what u's commands see, where the facility is open to him
