@@ -1,16 +1,15 @@
 -- Runs that are computed, so that no one takes the demand for empty: its premises can be met, and without each of the two bounds on places it fails.
-use mathlib.Core.Path.{_≡_, refl, sym, ap, _∙_}
-use mathlib.Core.Bool.{Bool, true, false, cond}
-use mathlib.Core.Option.{Option, none, some}
+use mathlib.Core.Path.{_≡_, refl, ap, _∙_}
+use mathlib.Core.Bool.{true, false}
 use mathlib.Core.List.{List, [], _∷_, _++_, map}
-use Prim.Native.Nat.{ℕ, zero, suc, _+_, _≤_}
+use Prim.Native.Nat.{ℕ, zero, suc, _+_}
 use native.Mathlib.Omega.{arith}
-use lib.Dec.{T, eqb, lit≤}
+use lib.Dec.{T, lit≤}
 use lib.ListN.{length, replicate}
 use Rattle.ground.specs.Tests.{within, at-most}
 use Rattle.ground.specs.Rows.{row}
 use Rattle.cipher.specs.declared.modes.Mode.the-variants.{Cbce}
-use Rattle.cipher.specs.Cipher.{Octets, deciphered}
+use Rattle.cipher.specs.Cipher.{deciphered}
 use Rattle.cipher.proofs.Promise.{enciphered-deciphered}
 use Rattle.keys.specs.Keys.{notarized}
 use Rattle.state.specs.declared.Place.{Place}
@@ -21,7 +20,7 @@ use Rattle.rules.specs.Commands.{UserCommand, RAS, LAU, CPW, GIV, LIV, LDK, mod
 use Rattle.rules.specs.Commands.{rule, refusals, modeRefusals, effect, test, modeSide, functionOf, wrongPair, withKey, bigPair, badLength, badBlocks}
 use Rattle.properties.specs.Single.{Single}
 use Rattle.merging.specs.Ids.{different}
-use Rattle.merging.specs.Demand3.{Request, Lists, Run, users, listOf, alone, Next, here, there, Finished, Merge, done, next, after, gets}
+use Rattle.merging.specs.Demand3.{Request, Lists, Run, users, listOf, alone, here, there, Finished, Merge, done, next, after, gets}
 use Rattle.merging.specs.Places.{single-by}
 use Rattle.merging.specs.Theorem.{demand-3}
 

@@ -1,10 +1,10 @@
 -- Three faults that the demand rules out. Each is `step` but for one thing, and of each it is proved that the demand does not hold.
 use mathlib.Core.Path.{_≡_, refl, sym, ap, _∙_, subst, fun-ext}
-use mathlib.Core.Bool.{Bool, true, false, cond}
+use mathlib.Core.Bool.{Bool, true}
 use mathlib.Core.List.{List, [], _∷_, _++_, head-eq-of-cons-eq}
-use Prim.Native.Nat.{ℕ, zero, suc, _≤_}
+use Prim.Native.Nat.{ℕ, _≤_}
 use native.Mathlib.Omega.{arith}
-use lib.Dec.{eqb, lit≤}
+use lib.Dec.{lit≤}
 use lib.ListN.{length, replicate, take, drop}
 use Rattle.ground.specs.Rows.{row}
 use Rattle.state.specs.declared.Place.{Place}

@@ -1,13 +1,14 @@
 -- A merge, told the other way: each identifier's requests in the run, picked out in their order, are its list.
 use mathlib.Core.Path.{_≡_, refl, sym, ap, _∙_, subst}
-use mathlib.Core.Bool.{Bool, true, false, cond, true≢false, false≢true}
-use mathlib.Core.List.{List, [], _∷_, nil≢cons, head-eq-of-cons-eq, tail-eq-of-cons-eq}
+use mathlib.Core.Bool.{true, false, cond, true≢false}
+use mathlib.Core.Logic.{_↔_}
+use mathlib.Core.List.{List, [], _∷_, nil≢cons, tail-eq-of-cons-eq}
 use Prim.Native.Nat.{ℕ}
 use lib.Dec.{eqb}
 use borrow.Author.Tests.{eqb-true, eq-eqb, ne-eqb}
 use Rattle.ground.specs.Search.{byTest}
 use Rattle.merging.specs.Ids.{mem, Distinct, mem-head, mem-tail, mem-apart}
-use Rattle.merging.specs.Demand3.{Request, Lists, Run, users, listOf, alone, Next, here, there, Finished, Merge, done, next}
+use Rattle.merging.specs.Demand3.{Request, Lists, Run, users, listOf, Next, here, there, Finished, Merge, done, next}
 
 -- the requests of u in the run, in their order
 abbrev pub of : ℕ → Run → List Request
@@ -82,8 +83,8 @@ all-finished [] d h = tt
 all-finished (l ∷ ls) d h = (
   rw (eq-eqb (l .0) (l .0) refl) at (h (l .0)),
   all-finished ls (d .1) λ u. byTest (mem u (users ls))
-  (λ e. rw (ne-eqb u (l .0) (mem-apart u (l .0) (users ls) e (d .0))) at (h u))
-  (λ e. no-list ls u e),
+      (λ e. rw (ne-eqb u (l .0) (mem-apart u (l .0) (users ls) e (d .0))) at (h u))
+      (λ e. no-list ls u e),
 )
 
 pub picked-merge : (m : Run) (lists : Lists) → Distinct (users lists) → Picked lists m → Merge lists m
@@ -97,3 +98,7 @@ picked-merge (x ∷ m) lists d p = next taken (picked-merge m (leftOf (x .0) lis
     others v =
         let q : cond (eqb v (x .0)) (x .1 ∷ of v m) (of v m) ≡ cond (eqb v (x .0)) (x .1 ∷ listOf v (leftOf (x .0) lists)) (listOf v (leftOf (x .0) lists)) = p v ∙ next-list taken d v in
         byTest (eqb v (x .0)) (λ e. tail-eq-of-cons-eq (rw e at q)) (λ e. rw e at q)
+
+-- where each identifier has one list, the two forms are one
+pub two-forms : (lists : Lists) → Distinct (users lists) → (m : Run) → Merge lists m ↔ Picked lists m
+two-forms lists one m = (merge-picked one, picked-merge m lists one)

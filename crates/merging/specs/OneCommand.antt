@@ -1,15 +1,15 @@
 -- One user's command, whatever it is: it sees and alters its issuer's own place and own entry alone.
 use mathlib.Core.Path.{_≡_, refl, sym, ap, _∙_}
-use mathlib.Core.Bool.{Bool, true, false, cond, true≢false}
+use mathlib.Core.Bool.{Bool, true, false, true≢false}
 use mathlib.Core.Option.{Option, none, some}
-use mathlib.Core.List.{List, [], _∷_}
+use mathlib.Core.List.{List}
 use Prim.Native.Nat.{ℕ, _≤_}
 use lib.Dec.{eqb}
 use lib.ListN.{length}
 use borrow.Author.Tests.{ne-eqb}
 use Rattle.state.specs.declared.Holdings.{Holdings}
 use Rattle.state.specs.declared.Seat.{Seat}
-use Rattle.state.specs.State.{Bytes, bare, find, seatOf, shutTo}
+use Rattle.state.specs.State.{Bytes, find, seatOf}
 use Rattle.table.specs.Entries.{fits, entryOf, enter}
 use Rattle.rules.specs.Commands.{World, Own, Effect, refused, gives, keeps, leaves, enters, writes, own, carry, by, step, rule, ruleIn, shutFor, told}
 use Rattle.properties.specs.Single.{count, Single, single}

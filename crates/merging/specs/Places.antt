@@ -1,5 +1,5 @@
 -- What a look-up gives after a user's place was altered, and when there is room.
-use mathlib.Core.Path.{_≡_, refl, sym, ap, _∙_, subst}
+use mathlib.Core.Path.{_≡_, refl, sym, ap, _∙_}
 use mathlib.Core.Bool.{Bool, true, false, cond, false≢true, true≢false}
 use mathlib.Core.Option.{Option, none, some}
 use mathlib.Core.List.{List, [], _∷_}
@@ -7,11 +7,11 @@ use Prim.Native.Nat.{ℕ, suc, _≤_}
 use native.Mathlib.Omega.{arith}
 use lib.Dec.{eqb, lit≤}
 use lib.ListN.{length}
-use borrow.Author.Tests.{eqb-true, eqb-false, eq-eqb, ne-eqb}
+use borrow.Author.Tests.{eqb-true, eq-eqb}
 use Rattle.ground.specs.Search.{byTest}
 use Rattle.state.specs.declared.Holdings.{Holdings}
 use Rattle.state.specs.declared.Place.{Place}
-use Rattle.state.specs.State.{vacant, seat, has, holders, find, allTaken, put, admit, give, giveTo, leave, shutTo}
+use Rattle.state.specs.State.{vacant, seat, has, holders, find, allTaken, put, admit, give, leave, shutTo}
 use Rattle.properties.specs.Single.{count, Single}
 use Rattle.merging.specs.Ids.{mem, Distinct, distinct, distinct-by, pigeonhole}
 

@@ -1,14 +1,13 @@
 -- Demand 3 holds of `step`, the definition that the commands' contracts cite.
 use mathlib.Core.Path.{_≡_, refl, sym, ap, ap₂, _∙_}
-use mathlib.Core.Bool.{Bool, true, false, cond, true≢false}
-use mathlib.Core.Option.{none}
+use mathlib.Core.Bool.{true, false, true≢false}
 use mathlib.Core.List.{List, [], _∷_, _++_, cons≢nil}
 use Prim.Native.Nat.{ℕ, _≤_}
 use lib.Dec.{eqb}
 use lib.ListN.{length}
 use borrow.Author.Tests.{eqb-true, eq-eqb}
 use Rattle.ground.specs.Search.{byTest}
-use Rattle.state.specs.State.{Bytes, holders, find}
+use Rattle.state.specs.State.{Bytes, holders}
 use Rattle.rules.specs.Commands.{World, Own, Told, own, told, step}
 use Rattle.properties.specs.Single.{Single}
 use Rattle.merging.specs.Ids.{mem, Distinct, once, different, mem-left, mem-right, mem-once}
@@ -16,7 +15,7 @@ use Rattle.merging.specs.Demand3.{Request, Lists, Run, users, listOf, al
 use Rattle.merging.specs.Places.{find-none}
 use Rattle.merging.specs.Tables.{from-self, from-ext}
 use Rattle.merging.specs.OneCommand.{Fine, does, then, seat-find, answer, own-then, own-stays, fine-then}
-use Rattle.merging.specs.Merges.{of, Picked, merge-picked, no-list}
+use Rattle.merging.specs.Merges.{of, merge-picked, no-list}
 
 -- ---- u's requests one after another, by what u's commands see, where the facility is open to him
 
