@@ -27,21 +27,6 @@ stepBy shuts alters w (IPW u p) out = step w (IPW u p) out
 stepBy shuts alters w RPW out = step w RPW out
 stepBy shuts alters w (logout u) out = step w (logout u) out
 
--- with no fault it is `step`, and the demand holds
-abbrev faultless : Step
-faultless = stepBy shutFor carry
-
-is-step : (w : World) (c : Command) (out : Bytes) → faultless w c out ≡ step w c out
-unfolding step
-is-step w (by u c) out = refl
-is-step w (EIK i k) out = refl
-is-step w (IPW u p) out = refl
-is-step w RPW out = refl
-is-step w (logout u) out = refl
-
-pub no-fault : Undisturbed faultless
-no-fault = subst Undisturbed (sym (fun-ext λ w. fun-ext λ c. fun-ext λ out. is-step w c out)) demand-3
-
 -- ---- LAU frees the first place rather than the issuer's
 
 abbrev firstFreed : List Place → List Place
@@ -74,6 +59,22 @@ firstTaken (p ∷ ps) = p .taken
 
 abbrev looksAtFirst : ℕ → World → Bool
 looksAtFirst u w = firstTaken (w .facility .places)
+
+-- ---- with no fault it is `step`, and the demand holds
+
+abbrev faultless : Step
+faultless = stepBy shutFor carry
+
+is-step : (w : World) (c : Command) (out : Bytes) → faultless w c out ≡ step w c out
+unfolding step
+is-step w (by u c) out = refl
+is-step w (EIK i k) out = refl
+is-step w (IPW u p) out = refl
+is-step w RPW out = refl
+is-step w (logout u) out = refl
+
+pub no-fault : Undisturbed faultless
+no-fault = subst Undisturbed (sym (fun-ext λ w. fun-ext λ c. fun-ext λ out. is-step w c out)) demand-3
 
 -- ---- what rules them out: 5 and 6 each ask for one thing, 6 is served first, and 5 does not get what he gets alone
 
