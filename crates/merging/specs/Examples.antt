@@ -17,7 +17,7 @@ use Rattle.state.specs.State.{Bytes, noInterchangeKey, vacant, seat, bare, hold
 use Rattle.table.specs.Entries.{fits, idOf, entryIn, entryOf, enterIn, enter}
 use Rattle.table.specs.Passwords.{big, same, sealed, authentic}
 use Rattle.rules.specs.Commands.{UserCommand, RAS, LAU, CPW, GIV, LIV, LDK, mode, World, Told, numberOf, step}
-use Rattle.rules.specs.Commands.{rule, refusals, modeRefusals, effect, test, modeSide, functionOf, wrongPair, withKey, bigPair, badLength, badBlocks}
+use Rattle.rules.specs.Commands.{rule, refusals, modeRefusals, effect, test, modeSide, sideFor, functionOf, unknown, wrongPair, withKey, withVector, afterMode, bigPair, badLength, badBlocks}
 use Rattle.properties.specs.Single.{Single}
 use Rattle.merging.specs.Ids.{different}
 use Rattle.merging.specs.Demand3.{Request, Lists, Run, users, listOf, alone, here, there, Finished, Merge, done, next, after, gets}
@@ -37,6 +37,7 @@ pub its-entry : (u : ℕ) (x : Bytes) → length x ≡ 8 → T (within 0 255 x) 
 unfolding sealed passwordOf
 its-entry u x e t = enciphered-deciphered (notarized key u u) x (record { eight = e; small = λ i. let z = at-most 0 255 x t i in omega arith })
 
+-- two entries
 abbrev pub first : Bytes
 first = 1 ∷ 2 ∷ 3 ∷ 4 ∷ 5 ∷ 6 ∷ 7 ∷ 8 ∷ []
 
@@ -54,19 +55,16 @@ entry-second u = its-entry u second refl tt
 abbrev pub entry : ℕ → Bytes → Bytes
 entry u x = 0 ∷ 0 ∷ 0 ∷ u ∷ x
 
-abbrev pub with : List Place → Bytes → World
-with ps t = record {
+abbrev pub start : List Place → World
+start ps = record {
   facility = record {
     «current_keys» = record { present = true; key = record { 0 = key } } ∷ replicate 14 noInterchangeKey;
     «old_keys» = replicate 15 noInterchangeKey;
     due = false;
     places = ps;
   };
-  table = t;
+  table = entry 5 first ++ entry 6 first;
 }
-
-abbrev pub start : List Place → World
-start ps = with ps (entry 5 first ++ entry 6 first)
 
 abbrev pub ask : UserCommand → Request
 ask c = record { command = c; output = replicate 9 9 }
@@ -90,7 +88,7 @@ abbrev of6 : List Request
 of6 = ask (LIV 0x74 block) ∷ comes 6 ∷ ask (CPW (passwordOf 6 first) (passwordOf 6 second)) ∷ ask LAU ∷ comes 6 ∷ []
 
 abbrev of7 : List Request
-of7 = ask (LDK 7 1 0x73 block) ∷ ask (mode Cbce block) ∷ ask LAU ∷ []
+of7 = ask (LDK 7 1 0x73 block) ∷ ask (mode Cbce block) ∷ ask (LIV 0x74 block) ∷ ask (mode Cbce block) ∷ ask LAU ∷ []
 
 abbrev lists : Lists
 lists = (5, of5) ∷ (6, of6) ∷ (7, of7) ∷ []
@@ -107,8 +105,8 @@ alone-6 : numbers (gets step three (alone 6 of6) 6) ≡ 3 ∷ 0 ∷ 0 ∷ 0 ∷ 
 unfolding step rule refusals effect test give leave shutTo seatOf keyAt named fits idOf entryIn entryOf enterIn enter big row bare same authentic
 alone-6 = rw (entry-first 6, entry-first 6, entry-second 6, entry-first 6)
 
-alone-7 : numbers (gets step three (alone 7 of7) 7) ≡ 0 ∷ 11 ∷ 0 ∷ []
-unfolding step rule refusals modeRefusals modeSide effect test functionOf wrongPair withKey bigPair badLength badBlocks give leave shutTo seatOf keyAt named big bare
+alone-7 : numbers (gets step three (alone 7 of7) 7) ≡ 0 ∷ 11 ∷ 0 ∷ 0 ∷ 0 ∷ []
+unfolding step rule refusals modeRefusals modeSide effect test functionOf unknown wrongPair withKey withVector sideFor afterMode bigPair badLength badBlocks give leave shutTo seatOf keyAt named big bare
 alone-7 = refl
 
 -- two of the merges: one list after another, and mixed
@@ -118,20 +116,23 @@ inTurn = alone 7 of7 ++ (alone 5 of5 ++ alone 6 of6)
 abbrev mixed : Run
 mixed =
     (6, ask (LIV 0x74 block)) ∷ (5, comes 5) ∷ (7, ask (LDK 7 1 0x73 block)) ∷ (6, comes 6) ∷ (5, ask (GIV block)) ∷ (5, ask LAU)
-    ∷ (6, ask (CPW (passwordOf 6 first) (passwordOf 6 second))) ∷ (7, ask (mode Cbce block)) ∷ (6, ask LAU) ∷ (7, ask LAU) ∷ (5, ask LAU) ∷ (6, comes 6) ∷ []
+    ∷ (6, ask (CPW (passwordOf 6 first) (passwordOf 6 second))) ∷ (7, ask (mode Cbce block)) ∷ (6, ask LAU) ∷ (7, ask (LIV 0x74 block)) ∷ (7, ask (mode Cbce block))
+    ∷ (5, ask LAU) ∷ (6, comes 6) ∷ (7, ask LAU) ∷ []
 
 end : Merge ((5, []) ∷ (6, []) ∷ (7, []) ∷ []) []
 end = let f : Finished ((5, []) ∷ (6, []) ∷ (7, []) ∷ []) = (refl, (refl, (refl, tt))) in done f
 
 inTurn-merge : Merge lists inTurn
 inTurn-merge =
-    next (there (there here)) (next (there (there here)) (next (there (there here)) (next here (next here (next here (next here
-    (next (there here) (next (there here) (next (there here) (next (there here) (next (there here) end)))))))))))
+    next (there (there here)) (next (there (there here)) (next (there (there here)) (next (there (there here)) (next (there (there here))
+    (next here (next here (next here (next here
+    (next (there here) (next (there here) (next (there here) (next (there here) (next (there here) end)))))))))))))
 
 mixed-merge : Merge lists mixed
 mixed-merge =
     next (there here) (next here (next (there (there here)) (next (there here) (next here (next here
-    (next (there here) (next (there (there here)) (next (there here) (next (there (there here)) (next here (next (there here) end)))))))))))
+    (next (there here) (next (there (there here)) (next (there here) (next (there (there here)) (next (there (there here))
+    (next here (next (there here) (next (there (there here)) end)))))))))))))
 
 -- the premises are met: so each gets the same in every merge as alone
 module _ (m : Run) (g : Merge lists m) where
@@ -141,7 +142,7 @@ module _ (m : Run) (g : Merge lists m) where
   as-alone : (u : ℕ) → gets step three m u ≡ gets step three (alone u (listOf u lists)) u
   as-alone = demand-3 three refl single lists (refl, (refl, (refl, tt))) (lit≤ tt) m g .0
 
-  any-merge : (numbers (gets step three m 5) ≡ 0 ∷ 10 ∷ 0 ∷ 3 ∷ []) × (numbers (gets step three m 6) ≡ 3 ∷ 0 ∷ 0 ∷ 0 ∷ 9 ∷ []) × (numbers (gets step three m 7) ≡ 0 ∷ 11 ∷ 0 ∷ [])
+  any-merge : (numbers (gets step three m 5) ≡ 0 ∷ 10 ∷ 0 ∷ 3 ∷ []) × (numbers (gets step three m 6) ≡ 3 ∷ 0 ∷ 0 ∷ 0 ∷ 9 ∷ []) × (numbers (gets step three m 7) ≡ 0 ∷ 11 ∷ 0 ∷ 0 ∷ 0 ∷ [])
   any-merge = (ap numbers (as-alone 5) ∙ alone-5, ap numbers (as-alone 6) ∙ alone-6, ap numbers (as-alone 7) ∙ alone-7)
 
   -- and it leaves the same table
@@ -150,7 +151,7 @@ module _ (m : Run) (g : Merge lists m) where
 
 -- the table that it leaves: 7 and 5 have gone when 6 comes
 gone : after step three (alone 7 of7 ++ alone 5 of5) ≡ start (replicate 16 vacant)
-unfolding step rule refusals modeRefusals modeSide effect test functionOf wrongPair withKey bigPair badLength badBlocks give leave shutTo seatOf keyAt named fits idOf entryIn entryOf big row bare same authentic
+unfolding step rule refusals modeRefusals modeSide effect test functionOf unknown wrongPair withKey withVector sideFor afterMode bigPair badLength badBlocks give leave shutTo seatOf keyAt named fits idOf entryIn entryOf big row bare same authentic
 gone = rw (entry-first 5)
 
 changed : after step (start (replicate 16 vacant)) (alone 6 of6) .table ≡ entry 5 first ++ entry 6 second
