@@ -1,5 +1,6 @@
 // The six modes, and DAUT.
 ghost use mathlib.Core.Path.{_≡_};
+ghost use Rattle.cipher.specs.declared.modes.Mode.the-variants.{Ecbe, Ecbd, Cbce, Cbcd, Cfbe, Cfbd};
 ghost use Rattle.rules.specs.Commands.{by, mode, DAUT, Steps, StepsOutput};
 
 use cipher::fixity::fixity_of;
@@ -23,8 +24,8 @@ use state::places::keep;
 use state::places::seat_of;
 use table::passwords::is_big;
 
-// ECBE, ECBD, CBCE, CBCD, CFBE and CFBD.
-pub fn by_mode(f: Facility, issuer: u32, which: Mode, text: &[u8], out: &mut [u8]) -> Outcome
+// What the six commands below share.
+fn by_mode(f: Facility, issuer: u32, which: Mode, text: &[u8], out: &mut [u8]) -> Outcome
     ensures { λ r. ⌜ StepsOutput f (now (out .entry)) (by issuer (mode which (now (text .entry)))) r (now (out .exit)) ⌝ }
 {
     let seat = seat_of(f, issuer);
@@ -43,6 +44,42 @@ pub fn by_mode(f: Facility, issuer: u32, which: Mode, text: &[u8], out: &mut [u8
     let applied = apply(which, key.key, vector.vector, text, &mut out[..]);
     let after = after_mode(which, applied.vector, seat.holdings);
     wrote(keep(f, issuer, after), text.len())
+}
+
+pub fn ecbe(f: Facility, issuer: u32, text: &[u8], out: &mut [u8]) -> Outcome
+    ensures { λ r. ⌜ StepsOutput f (now (out .entry)) (by issuer (mode Ecbe (now (text .entry)))) r (now (out .exit)) ⌝ }
+{
+    by_mode(f, issuer, Mode::Ecbe, text, &mut out[..])
+}
+
+pub fn ecbd(f: Facility, issuer: u32, text: &[u8], out: &mut [u8]) -> Outcome
+    ensures { λ r. ⌜ StepsOutput f (now (out .entry)) (by issuer (mode Ecbd (now (text .entry)))) r (now (out .exit)) ⌝ }
+{
+    by_mode(f, issuer, Mode::Ecbd, text, &mut out[..])
+}
+
+pub fn cbce(f: Facility, issuer: u32, text: &[u8], out: &mut [u8]) -> Outcome
+    ensures { λ r. ⌜ StepsOutput f (now (out .entry)) (by issuer (mode Cbce (now (text .entry)))) r (now (out .exit)) ⌝ }
+{
+    by_mode(f, issuer, Mode::Cbce, text, &mut out[..])
+}
+
+pub fn cbcd(f: Facility, issuer: u32, text: &[u8], out: &mut [u8]) -> Outcome
+    ensures { λ r. ⌜ StepsOutput f (now (out .entry)) (by issuer (mode Cbcd (now (text .entry)))) r (now (out .exit)) ⌝ }
+{
+    by_mode(f, issuer, Mode::Cbcd, text, &mut out[..])
+}
+
+pub fn cfbe(f: Facility, issuer: u32, text: &[u8], out: &mut [u8]) -> Outcome
+    ensures { λ r. ⌜ StepsOutput f (now (out .entry)) (by issuer (mode Cfbe (now (text .entry)))) r (now (out .exit)) ⌝ }
+{
+    by_mode(f, issuer, Mode::Cfbe, text, &mut out[..])
+}
+
+pub fn cfbd(f: Facility, issuer: u32, text: &[u8], out: &mut [u8]) -> Outcome
+    ensures { λ r. ⌜ StepsOutput f (now (out .entry)) (by issuer (mode Cfbd (now (text .entry)))) r (now (out .exit)) ⌝ }
+{
+    by_mode(f, issuer, Mode::Cfbd, text, &mut out[..])
 }
 
 // Over the plain record: t and s by the transmit side, r by the receive side.

@@ -204,6 +204,11 @@ demand-1 w (IPW u p) out = by-officer _ w _ out refl
 demand-1 w RPW out = by-officer _ w _ out refl
 demand-1 w (logout u) out = by-user w u LAU out
 
+-- a number whose condition fails is not given
+pub not-given : (w : World) (c : Command) (out : Bytes) (n : ℕ) → (n ≡ 0 → ⊥) → holds n (tests c w out) ≡ false → numberOf (step w c out .answered .answer) ≡ n → ⊥
+not-given w c out n z h e =
+    false≢true (sym h ∙ subst (λ (k : ℕ). holds k (tests c w out) ≡ true) e (demand-1 w c out .lowest .held (λ q. z (sym e ∙ q))))
+
 -- ---- the page's column "refusals", number for number
 
 abbrev pub modePage : Mode → List ℕ

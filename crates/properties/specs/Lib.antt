@@ -6,3 +6,7 @@ pub mod Moved
 pub mod Texts
 pub mod Single
 pub mod Tables
+pub mod Passwords
+pub mod Reencrypted
+pub mod Joined
+pub mod TwoPlaces

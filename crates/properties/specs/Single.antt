@@ -27,7 +27,7 @@ Single ps = (u : ℕ) → count u ps ≤ 1
 
 -- ---- places put, admitted and freed
 
-has-same : (u v : ℕ) (p : Place) → has u p ≡ true → has v p ≡ eqb v u
+pub has-same : (u v : ℕ) (p : Place) → has u p ≡ true → has v p ≡ eqb v u
 has-same u v p h =
     byTest (p .taken)
     (λ t.

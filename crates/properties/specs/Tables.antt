@@ -1,6 +1,6 @@
 -- The password table after an entry was altered: what each identifier's entry then is.
 use mathlib.Core.Path.{_≡_, refl, sym, ap, ap₂, _∙_, subst}
-use mathlib.Core.Bool.{Bool, true, false, cond, false≢true, true≢false}
+use mathlib.Core.Bool.{Bool, true, false, cond, not, false≢true, true≢false}
 use mathlib.Core.Option.{Option, none, some}
 use mathlib.Core.List.{List, [], _∷_, _++_, append-assoc}
 use Prim.Native.Nat.{ℕ, zero, suc, _+_, _*_, _-_, _/_, _≤_, _<_, min}
@@ -13,6 +13,8 @@ use Rattle.ground.specs.Search.{byTest}
 use Rattle.ground.specs.Rows.{row, digits, digits-length, row-digits}
 use Rattle.state.specs.State.{Bytes}
 use Rattle.table.specs.Entries.{freeId, isSome, idOf, entryIn, enterIn, entryOf, enter, enrolIn, enrolled}
+use Rattle.rules.specs.Commands.{lacksEntry}
+use Rattle.properties.specs.Steps.{not-false}
 
 -- the three cuts of t with b stored as the eight bytes of its first entry
 module _ (b t : Bytes) (eight : length b ≡ 8) (long : 12 ≤ length t) where
@@ -126,3 +128,55 @@ module _ (u : ℕ) (b : Bytes) (eight : length b ≡ 8) (small : u < 4294967295)
           byTest (eqb u (idOf t))
           (λ y. absurd (let z : _≡_ {A = ℕ} 0 1 = never (sym (ap (λ (x : Bool). cond x (some (take 8 (drop 4 t))) (entryIn n u (drop 12 t))) y) ∙ q) in omega arith))
           (λ z. z)
+
+  pub enrol-length : (n : ℕ) (t : Bytes) → n * 12 ≤ length t → length (enrolIn n u b t) ≡ length t
+  unfolding enrolIn
+  enrol-length zero t l = refl
+  enrol-length (suc n) t l =
+      byTest (eqb freeId (idOf t))
+      (λ g.
+      let a : 12 ≤ length t = first n t l in
+      rw g (omega (arith, length-append (digits 256 4 u) (b ++ drop 12 t), length-append b (drop 12 t), four-bytes u b t eight, length-drop 12 t)))
+      (λ g. rw g (omega (arith, length-append (take 12 t) (enrolIn n u b (drop 12 t)), enrol-length n (drop 12 t) (rest n t l), length-drop 12 t, twelve t t (first n t l))))
+
+-- ---- a whole table
+
+-- its entries lie within it
+within : (t : Bytes) → length t / 12 * 12 ≤ length t
+within t = omega arith
+
+was-none : (o : Option Bytes) → isSome o ≡ false → o ≡ none
+was-none none e = refl
+was-none (some a) e = absurd (true≢false e)
+
+became : (b : Bytes) (o : Option Bytes) → isSome o ≡ true → become b o ≡ some b
+became b none e = absurd (false≢true e)
+became b (some a) e = refl
+
+module _ (u : ℕ) (b t : Bytes) (eight : length b ≡ 8) where
+  pub enter-size : length (enter u b t) ≡ length t
+  unfolding enter
+  enter-size = enter-length u b eight (length t / 12) t (within t)
+
+  pub enter-own : entryOf u (enter u b t) ≡ become b (entryOf u t)
+  unfolding enter entryOf
+  enter-own = ap (λ (n : ℕ). entryIn (n / 12) u (enterIn (length t / 12) u b t)) enter-size ∙ enter-mine u b eight (length t / 12) t (within t)
+
+  module _ (small : u < 4294967295) where
+    pub enrolled-size : length (enrolled u b t) ≡ length t
+    unfolding enrolled
+    enrolled-size = byTest (isSome (entryOf u t)) (λ e. rw e enter-size) (λ e. rw e (enrol-length u b eight small (length t / 12) t (within t)))
+
+    enrol-own : entryOf u t ≡ none → isSome (entryOf freeId t) ≡ true → entryOf u (enrolIn (length t / 12) u b t) ≡ some b
+    unfolding entryOf
+    enrol-own e f =
+        ap (λ (n : ℕ). entryIn (n / 12) u (enrolIn (length t / 12) u b t)) (enrol-length u b eight small (length t / 12) t (within t))
+        ∙ enrol-mine u b eight small (length t / 12) t (within t) e f
+
+    -- IPW's condition 15 fails: u's entry is then b
+    pub enrolled-own : lacksEntry u t ≡ false → entryOf u (enrolled u b t) ≡ some b
+    unfolding enrolled lacksEntry
+    enrolled-own h =
+        byTest (isSome (entryOf u t))
+        (λ e. rw e (enter-own ∙ became b (entryOf u t) e))
+        (λ e. rw e (enrol-own (was-none (entryOf u t) e) (not-false _ (sym (ap (λ (x : Bool). cond x false (not (isSome (entryOf freeId t)))) e) ∙ h))))

@@ -33,7 +33,7 @@ module _ (F : World) (u : ℕ) (m : Mode) (d out : Bytes) (h : Holdings) (active
       let e = next _ 11 _ (λ q. omega arith) (c .1) in
       good-blocks (length d) (next (badBlocks (length d)) 12 _ (λ q. omega arith) (e .1) .0)
 
-  pub text : Bytes
+  unfoldable pub text : Bytes
   text = modeText m (modeSide m h .key .key .0) (modeSide m h .vector .vector .0) d
 
   -- its first bytes, as many as the data's, are the mode's text

@@ -1,0 +1,2 @@
+// Decoded commands carried out.
+pub mod perform;
