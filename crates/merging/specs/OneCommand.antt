@@ -13,11 +13,11 @@ use Rattle.state.specs.State.{Bytes, find, seatOf}
 use Rattle.table.specs.Entries.{fits, entryOf, enter}
 use Rattle.rules.specs.Commands.{World, Own, Effect, refused, gives, keeps, leaves, enters, writes, own, carry, by, step, rule, ruleIn, shutFor, told}
 use Rattle.properties.specs.Single.{count, Single, single}
-use Rattle.properties.specs.Tables.{become}
+use Rattle.properties.specs.Tables.{become, enter-size, enter-own}
 use Rattle.merging.specs.Ids.{mem, mem-apart}
 use Rattle.merging.specs.Demand3.{Request, serve}
 use Rattle.merging.specs.Places.{give-mine, give-other, give-length, leave-mine, leave-other, leave-length, open-to}
-use Rattle.merging.specs.Tables.{length-after, entry-mine, entry-other, From, from-enter}
+use Rattle.merging.specs.Tables.{entry-other, From, from-enter}
 
 withSeat : Own → Option Holdings → Own
 withSeat o h = record { current = o .current; old = o .old; due = o .due; fits = o .fits; entry = o .entry; seat = seatOf h }
@@ -38,7 +38,7 @@ advance (writes b h) o = withSeat o (some h)
 entered : (v u : ℕ) (b : Bytes) (p : length b ≡ 8) (w : World) (x : Option Bytes) → entryOf v (enter u b (w .table)) ≡ x
     → own v (carry u (enters b p) w) ≡ withEntry (own v w) x
 unfolding withEntry
-entered v u b p w x q = rw (length-after u b p (w .table), q)
+entered v u b p w x q = rw (enter-size u b (w .table) p, q)
 
 -- another's command leaves all that v's commands see
 own-other : (v u : ℕ) (e : Effect) (w : World) → eqb v u ≡ false → own v (carry u e w) ≡ own v w
@@ -47,7 +47,7 @@ own-other v u (refused n) w d = refl
 own-other v u (gives n b) w d = refl
 own-other v u (keeps h) w d = ap (withSeat (own v w)) (give-other v u h (w .facility .places) d)
 own-other v u leaves w d = ap (withSeat (own v w)) (leave-other v u (w .facility .places) d)
-own-other v u (enters b p) w d = entered v u b p w (entryOf v (w .table)) (entry-other u b p (w .table) v d)
+own-other v u (enters b p) w d = entered v u b p w (entryOf v (w .table)) (entry-other u b (w .table) p v d)
 own-other v u (writes b h) w d = ap (withSeat (own v w)) (give-other v u h (w .facility .places) d)
 
 -- what his own command makes of it
@@ -57,7 +57,7 @@ own-mine u (refused n) w c s = refl
 own-mine u (gives n b) w c s = refl
 own-mine u (keeps h) w c s = ap (withSeat (own u w)) (give-mine u h (w .facility .places) s)
 own-mine u leaves w c s = ap (withSeat (own u w)) (leave-mine u (w .facility .places) c)
-own-mine u (enters b p) w c s = entered u u b p w (become b (entryOf u (w .table))) (entry-mine u b p (w .table))
+own-mine u (enters b p) w c s = entered u u b p w (become b (entryOf u (w .table))) (enter-own u b (w .table) p)
 own-mine u (writes b h) w c s = ap (withSeat (own u w)) (give-mine u h (w .facility .places) s)
 
 -- a seat tells what is held

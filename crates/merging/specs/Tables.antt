@@ -13,26 +13,11 @@ use Rattle.ground.specs.Search.{byTest}
 use Rattle.ground.specs.Rows.{row}
 use Rattle.state.specs.State.{Bytes}
 use Rattle.table.specs.Entries.{idOf, entryIn, enterIn, entryOf, enter}
-use Rattle.properties.specs.Tables.{cut-id, cut-rest, stay-id, stay-rest, first, rest, become, enter-mine, enter-other, enter-length}
+use Rattle.properties.specs.Tables.{cut-id, cut-rest, stay-id, stay-rest, first, rest, enter-other, enter-size}
 
--- ---- the whole table
-
--- all that a table has of whole entries
-whole-entries : (t : Bytes) → length t / 12 * 12 ≤ length t
-whole-entries t = omega arith
-
-module _ (u : ℕ) (b : Bytes) (eight : length b ≡ 8) (t : Bytes) where
-  pub length-after : length (enter u b t) ≡ length t
-  unfolding enter
-  length-after = enter-length u b eight (length t / 12) t (whole-entries t)
-
-  pub entry-mine : entryOf u (enter u b t) ≡ become b (entryOf u t)
-  unfolding enter entryOf
-  entry-mine = rw (length-after) (enter-mine u b eight (length t / 12) t (whole-entries t))
-
-  pub entry-other : (v : ℕ) → eqb v u ≡ false → entryOf v (enter u b t) ≡ entryOf v t
-  unfolding enter entryOf
-  entry-other v d = rw (length-after) (enter-other u b eight v d (length t / 12) t (whole-entries t))
+pub entry-other : (u : ℕ) (b t : Bytes) (eight : length b ≡ 8) (v : ℕ) → eqb v u ≡ false → entryOf v (enter u b t) ≡ entryOf v t
+unfolding enter entryOf
+entry-other u b t eight v d = rw (enter-size u b t eight) (enter-other u b eight v d (length t / 12) t (omega arith))
 
 -- ---- tables of n entries that differ in owners' entries alone: entry by entry the same identifier and, of each identifier, the same
 -- bytes in all its entries but the first; and the same bytes behind
@@ -96,7 +81,7 @@ pub from-enter : (u : ℕ) (b : Bytes) → length b ≡ 8 → (a t : Bytes) → 
 unfolding enter
 from-enter u b eight a t f =
     record {
-      size = length-after u b eight t ∙ f .size;
+      size = enter-size u b t eight ∙ f .size;
       same = rw (f .size) (same-enter u b eight (length a / 12) a t (omega (arith, f .size)) (f .same));
     }
 
