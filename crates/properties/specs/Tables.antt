@@ -21,13 +21,13 @@ module _ (b t : Bytes) (eight : length b ≡ 8) (long : 12 ≤ length t) where
   four : length (take 4 t) ≡ 4
   four = length-take-le 4 t (omega arith)
 
-  cut-id : take 4 (take 4 t ++ (b ++ drop 12 t)) ≡ take 4 t
+  pub cut-id : take 4 (take 4 t ++ (b ++ drop 12 t)) ≡ take 4 t
   cut-id = take-at (take 4 t) (b ++ drop 12 t) 4 four
 
   cut-entry : take 8 (drop 4 (take 4 t ++ (b ++ drop 12 t))) ≡ b
   cut-entry = rw (drop-at (take 4 t) (b ++ drop 12 t) 4 four) (take-at b (drop 12 t) 8 eight)
 
-  cut-rest : drop 12 (take 4 t ++ (b ++ drop 12 t)) ≡ drop 12 t
+  pub cut-rest : drop 12 (take 4 t ++ (b ++ drop 12 t)) ≡ drop 12 t
   cut-rest =
       rw (← (append-assoc (take 4 t) b (drop 12 t)))
       (drop-at (take 4 t ++ b) (drop 12 t) 12 (rw (length-append (take 4 t) b, four, eight)))
@@ -40,10 +40,10 @@ module _ (t r : Bytes) (long : 12 ≤ length t) where
   stay-first : take 12 (take 12 t ++ r) ≡ take 12 t
   stay-first = take-at (take 12 t) r 12 twelve
 
-  stay-rest : drop 12 (take 12 t ++ r) ≡ r
+  pub stay-rest : drop 12 (take 12 t ++ r) ≡ r
   stay-rest = drop-at (take 12 t) r 12 twelve
 
-  stay-id : take 4 (take 12 t ++ r) ≡ take 4 t
+  pub stay-id : take 4 (take 12 t ++ r) ≡ take 4 t
   stay-id = take-append-le 4 (take 12 t) r (omega (arith, twelve)) ∙ take-take 4 12 t (omega arith)
 
   stay-entry : take 8 (drop 4 (take 12 t ++ r)) ≡ take 8 (drop 4 t)
@@ -52,10 +52,10 @@ module _ (t r : Bytes) (long : 12 ≤ length t) where
       (take-at (take 8 (drop 4 t)) r 8 (length-take-le 8 (drop 4 t) (omega (arith, length-drop 4 t))))
 
 -- the rest of a table of n + 1 entries has n
-rest : (n : ℕ) (t : Bytes) → suc n * 12 ≤ length t → n * 12 ≤ length (drop 12 t)
+pub rest : (n : ℕ) (t : Bytes) → suc n * 12 ≤ length t → n * 12 ≤ length (drop 12 t)
 rest n t l = omega (arith, length-drop 12 t)
 
-first : (n : ℕ) (t : Bytes) → suc n * 12 ≤ length t → 12 ≤ length t
+pub first : (n : ℕ) (t : Bytes) → suc n * 12 ≤ length t → 12 ≤ length t
 first n t l = omega arith
 
 -- what becomes of an entry whose owner's bytes become b
