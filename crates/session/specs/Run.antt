@@ -1,15 +1,17 @@
 -- A stream carried out: its commands one after the other, each answered, and the lines that say so.
-use mathlib.Core.Path.{_≡_, refl, ap, _∙_}
+use mathlib.Core.Path.{_≡_, refl, sym, ap, _∙_}
 use mathlib.Core.Bool.{cond}
-use mathlib.Core.List.{List, [], _∷_, _++_}
-use Prim.Native.Nat.{ℕ, zero, suc, _+_, _≤_}
+use mathlib.Core.List.{List, [], _∷_, _++_, append-nil}
+use Prim.Native.Nat.{ℕ, zero, suc, _+_, _≤_, _<_}
+use native.Mathlib.Numerals.{add-one}
 use native.Mathlib.Omega.{arith}
 use lib.ListN.{length, take, drop}
 use Rattle.stream.specs.declared.Field.{Field}
 use Rattle.stream.specs.declared.Field.the-variants.{Whole, Cut, End}
 use Rattle.stream.specs.declared.Reading.{Reading}
-use Rattle.stream.specs.Fields.{part, fieldAt}
+use Rattle.stream.specs.Fields.{part, fieldAt, at-end, within}
 use Rattle.stream.specs.Commands.{decoded}
+use Rattle.printout.specs.Page.{Page, entered, then}
 use Rattle.printout.specs.Lines.{line}
 use Rattle.state.specs.State.{Bytes}
 use Rattle.rules.specs.declared.Answer.{Answer}
@@ -81,9 +83,86 @@ unfoldable pub transcript : ℕ → List Answered → Bytes
 transcript i [] = []
 transcript i (a ∷ rest) = lineOf i a ++ transcript (suc i) rest
 
+-- ---- the whole run: what it leaves, and what it prints onto a page
+
+pub record Left : Type 0 where
+  pub world : World
+  pub output : Bytes
+  pub printed : Page
+
+abbrev pub leaves : World → Bytes → Page → Left
+leaves w out p = record { world = w; output = out; printed = p }
+
+-- from a position on, with the next ordinal
+unfoldable pub printedFrom : ℕ → Page → Ran → Left
+printedFrom i p r = leaves (r .world) (r .output) (entered (transcript i (r .answers)) p)
+
+unfoldable pub printedRun : Bytes → World → Bytes → Page → Left
+printedRun s w out p = printedFrom 1 p (ranFrom s w out 0)
+
 -- ---- one turn of the loop
 
--- n more commands than bytes are left change nothing
-more : (n : ℕ) (s : Bytes) (w : World) (out : Bytes) (at : ℕ) → length s ≤ at + n → carryOn (suc n) s w out at ≡ carryOn n s w out at
-unfolding carryOn
-more n s w out at h = ?
+-- where n commands are enough, one more changes nothing
+module _ (s : Bytes) where
+  abbrev Enough : ℕ → Type 0
+  Enough n = (w : World) (out : Bytes) (at : ℕ) → length s ≤ at + n → carryOn (suc n) s w out at ≡ carryOn n s w out at
+
+  enough-at : (n : ℕ) → Enough n → (w : World) (out : Bytes) (at : ℕ) (f : Field) → fieldAt s at ≡ f → length s ≤ at + suc n
+      → goOn (carryOn (suc n) s) w out s f ≡ goOn (carryOn n s) w out s f
+  enough-at n ih w out at (Whole tag start end) e h =
+      let b = within s at tag start end e in
+      ap (after (answered tag (answerTo w tag (part start end s) out .answered))) (ih _ _ end (omega (arith, b .0, b .1)))
+  enough-at n ih w out at (Cut tag) e h = refl
+  enough-at n ih w out at End e h = refl
+
+  enough : (n : ℕ) → Enough n
+  unfolding carryOn
+  enough zero w out at h = ap (goOn (carryOn zero s) w out s) (at-end s at (omega arith))
+  enough (suc n) w out at h = enough-at n (enough n) w out at (fieldAt s at) refl h
+
+  from : (n : ℕ) (w : World) (out : Bytes) (at : ℕ) → length s ≡ n → at < length s → carryOn n s w out at ≡ goOn (carryOn n s) w out s (fieldAt s at)
+  unfolding carryOn
+  from zero w out at e h = absurd (omega arith)
+  from (suc n) w out at e h = sym (enough-at n (enough n) w out at (fieldAt s at) refl (omega arith))
+
+  -- what stands at a position, and then the rest
+  pub turn : (w : World) (out : Bytes) (at : ℕ) → at < length s → ranFrom s w out at ≡ goOn (ranFrom s) w out s (fieldAt s at)
+  unfolding ranFrom
+  turn w out at h = from (length s) w out at refl h
+
+  over : (w : World) (out : Bytes) (at : ℕ) → length s ≤ at → ranFrom s w out at ≡ ran w out []
+  unfolding ranFrom carryOn
+  over w out at h = ends (length s) refl
+    where
+      ends : (n : ℕ) → length s ≡ n → carryOn n s w out at ≡ ran w out []
+      ends zero e = refl
+      ends (suc n) e = ap (goOn (carryOn n s) w out s) (at-end s at h)
+
+  -- the same, with the line
+  module _ (w : World) (out : Bytes) (at i : ℕ) (p : Page) where
+    pub turn-whole : (tag start end : ℕ) → fieldAt s at ≡ Whole tag start end → at < length s
+        → printedFrom i p (ranFrom s w out at)
+        ≡ printedFrom (i + 1) (entered (lineOf i (answered tag (answerTo w tag (part start end s) out .answered))) p)
+        (ranFrom s (answerTo w tag (part start end s) out .world) (answerTo w tag (part start end s) out .answered .output) end)
+    unfolding printedFrom transcript
+    turn-whole tag start end e h =
+        ap (printedFrom i p) (turn w out at h ∙ ap (goOn (ranFrom s) w out s) e)
+        ∙ ap (λ (q : Page). leaves (r .world) (r .output) q) (then (lineOf i a) (transcript (suc i) (r .answers)) p)
+        ∙ rw add-one
+      where
+        a : Answered
+        a = answered tag (answerTo w tag (part start end s) out .answered)
+
+        r : Ran
+        r = ranFrom s (answerTo w tag (part start end s) out .world) (answerTo w tag (part start end s) out .answered .output) end
+
+    pub turn-cut : (tag : ℕ) → fieldAt s at ≡ Cut tag → at < length s
+        → printedFrom i p (ranFrom s w out at) ≡ leaves w out (entered (lineOf i (answered tag (plain (Refused 17) out))) p)
+    unfolding printedFrom transcript
+    turn-cut tag e h =
+        ap (printedFrom i p) (turn w out at h ∙ ap (goOn (ranFrom s) w out s) e)
+        ∙ ap (λ (l : Bytes). leaves w out (entered l p)) (append-nil (lineOf i (answered tag (plain (Refused 17) out))))
+
+    pub turn-end : length s ≤ at → printedFrom i p (ranFrom s w out at) ≡ leaves w out p
+    unfolding printedFrom transcript entered
+    turn-end h = ap (printedFrom i p) (over w out at h)

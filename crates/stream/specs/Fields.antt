@@ -7,7 +7,7 @@ use native.Mathlib.Omega.{arith}
 use lib.Dec.{ltb, leb}
 use lib.ListN.{length, getD, take, drop, length-drop}
 use lib.Seq.{length-take-le}
-use borrow.Author.Tests.{leb-false, ltb-false}
+use borrow.Author.Tests.{le-leb, leb-false, ltb-false}
 use Rattle.ground.specs.Rows.{row, digits}
 use Rattle.stream.specs.declared.Field.{Field}
 use Rattle.stream.specs.declared.Field.the-variants.{Whole, Cut, End}
@@ -65,3 +65,8 @@ module _ (s : Bytes) (at t a e : ℕ) where
   pub within : fieldAt s at ≡ Whole t a e → (a ≡ at + 3) × (a ≤ e) × (e ≤ length s)
   unfolding fieldAt
   within h = bounds (leb (length s) at) (ltb (length s - at) 3) (ltb (length s - at - 3) (lengthAt s at)) refl refl refl h
+
+-- nothing stands at the end
+pub at-end : (s : Bytes) (at : ℕ) → length s ≤ at → fieldAt s at ≡ End
+unfolding fieldAt
+at-end s at h = let e : leb (length s) at ≡ true = le-leb (length s) at h in rw e
