@@ -6,3 +6,4 @@ pub mod Moved
 pub mod Texts
 pub mod Single
 pub mod Tables
+pub mod Performed
