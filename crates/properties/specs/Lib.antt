@@ -10,3 +10,4 @@ pub mod Passwords
 pub mod Reencrypted
 pub mod Joined
 pub mod TwoPlaces
+pub mod Performed

@@ -16,7 +16,8 @@ use Rattle.printout.specs.Lines.{line}
 use Rattle.state.specs.State.{Bytes}
 use Rattle.rules.specs.declared.Answer.{Answer}
 use Rattle.rules.specs.declared.Answer.the-variants.{Done, Gave, Wrote, Refused}
-use Rattle.rules.specs.Commands.{World, Result, result, Told, plain, numberOf}
+use Rattle.rules.specs.declared.Outcome.{Outcome}
+use Rattle.rules.specs.Commands.{World, Result, result, Told, plain, numberOf, over as world, left as leftBy}
 use Rattle.session.specs.Requests.{performed}
 
 -- ---- one command
@@ -140,7 +141,7 @@ module _ (s : Bytes) where
 
   -- the same, with the line
   module _ (w : World) (out : Bytes) (at i : ℕ) (p : Page) where
-    pub turn-whole : (tag start end : ℕ) → fieldAt s at ≡ Whole tag start end → at < length s
+    turn-whole : (tag start end : ℕ) → fieldAt s at ≡ Whole tag start end → at < length s
         → printedFrom i p (ranFrom s w out at)
         ≡ printedFrom (i + 1) (entered (lineOf i (answered tag (answerTo w tag (part start end s) out .answered))) p)
         (ranFrom s (answerTo w tag (part start end s) out .world) (answerTo w tag (part start end s) out .answered .output) end)
@@ -155,6 +156,16 @@ module _ (s : Bytes) where
 
         r : Ran
         r = ranFrom s (answerTo w tag (part start end s) out .world) (answerTo w tag (part start end s) out .answered .output) end
+
+    -- what the code did at a turn
+    pub turned : (tag start end : ℕ) → fieldAt s at ≡ Whole tag start end → at < length s
+        → (done : Outcome) (t out′ : Bytes) → leftBy done t out′ ≡ answerTo w tag (part start end s) out
+        → (q : Page) → q ≡ entered (lineOf i (answered tag (leftBy done t out′ .answered))) p
+        → printedFrom (i + 1) q (ranFrom s (world (done .state) t) out′ end) ≡ printedFrom i p (ranFrom s w out at)
+    turned tag start end e h done t out′ d q g =
+        ap (λ (x : Page). printedFrom (i + 1) x (ranFrom s (world (done .state) t) out′ end)) g
+        ∙ ap (λ (a : Result). printedFrom (i + 1) (entered (lineOf i (answered tag (a .answered))) p) (ranFrom s (a .world) (a .answered .output) end)) d
+        ∙ sym (turn-whole tag start end e h)
 
     pub turn-cut : (tag : ℕ) → fieldAt s at ≡ Cut tag → at < length s
         → printedFrom i p (ranFrom s w out at) ≡ leaves w out (entered (lineOf i (answered tag (plain (Refused 17) out))) p)
