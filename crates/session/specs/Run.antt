@@ -17,7 +17,8 @@ use Rattle.state.specs.State.{Bytes}
 use Rattle.rules.specs.declared.Answer.{Answer}
 use Rattle.rules.specs.declared.Answer.the-variants.{Done, Gave, Wrote, Refused}
 use Rattle.rules.specs.declared.Outcome.{Outcome}
-use Rattle.rules.specs.Commands.{World, Result, result, Told, plain, numberOf, over as world, left as leftBy}
+use Rattle.rules.specs.Commands.{World, Result, result, Told, plain, numberOf, refusedOf, over as world, left as leftBy}
+use Rattle.state.specs.declared.Facility.{Facility}
 use Rattle.session.specs.Requests.{performed}
 
 -- ---- one command
@@ -167,12 +168,22 @@ module _ (s : Bytes) where
         ∙ ap (λ (a : Result). printedFrom (i + 1) (entered (lineOf i (answered tag (a .answered))) p) (ranFrom s (a .world) (a .answered .output) end)) d
         ∙ sym (turn-whole tag start end e h)
 
-    pub turn-cut : (tag : ℕ) → fieldAt s at ≡ Cut tag → at < length s
+    turn-cut : (tag : ℕ) → fieldAt s at ≡ Cut tag → at < length s
         → printedFrom i p (ranFrom s w out at) ≡ leaves w out (entered (lineOf i (answered tag (plain (Refused 17) out))) p)
     unfolding printedFrom transcript
     turn-cut tag e h =
         ap (printedFrom i p) (turn w out at h ∙ ap (goOn (ranFrom s) w out s) e)
         ∙ ap (λ (l : Bytes). leaves w out (entered l p)) (append-nil (lineOf i (answered tag (plain (Refused 17) out))))
+
+    -- what the code did at the cut
+    pub cut-off : (tag : ℕ) → fieldAt s at ≡ Cut tag → at < length s → (f : Facility) (done : Outcome) → done ≡ refusedOf f 17
+        → (q : Page) → q ≡ entered (lineOf i (answered tag (leftBy done [] out .answered))) p → leaves w out q ≡ printedFrom i p (ranFrom s w out at)
+    cut-off tag e h f done d q g =
+        ap (leaves w out) (g ∙ ap (λ (x : Outcome). entered (lineOf i (answered tag (leftBy x [] out .answered))) p) d) ∙ sym (turn-cut tag e h)
+
+    pub turn-none : fieldAt s at ≡ End → at < length s → printedFrom i p (ranFrom s w out at) ≡ leaves w out p
+    unfolding printedFrom transcript entered
+    turn-none e h = ap (printedFrom i p) (turn w out at h ∙ ap (goOn (ranFrom s) w out s) e)
 
     pub turn-end : length s ≤ at → printedFrom i p (ranFrom s w out at) ≡ leaves w out p
     unfolding printedFrom transcript entered

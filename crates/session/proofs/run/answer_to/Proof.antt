@@ -2,30 +2,6 @@ use Rattle.session.specs.Run.{answerTo}
 use borrow.Author.Needs.{needs}
 use Rattle.session.proofs.run.answer_to.Statement.{statement}
 use Rattle.session.proofs.run.answer_to.Tie as tie
-use Rattle.session.proofs.run.answer_to.Reads as reads
-use Rattle.session.proofs.run.answer_to.Lts as lts
-use Rattle.rules.proofs.replies.refused.Reads as refused-reads
-use Rattle.session.proofs.perform.perform.Reads as perform-reads
-use Rattle.stream.proofs.commands.decode.Reads as decode-reads
-use Rattle.stream.proofs.commands.text_from.Reads as text-from-reads
-
-decode-requires : tie.Need-decode-requires
-decode-requires c κs = search needs
-
-text-from-requires : tie.Need-text-from-requires
-text-from-requires c κs = search needs
-
-perform-requires : tie.Need-perform-requires
-perform-requires c κs = search needs
-
-refused-requires : tie.Need-refused-requires
-refused-requires c κs = search needs
-
-same-length : tie.Need-same-length
-same-length c = search needs
-
-same-length-2 : tie.Need-same-length-2
-same-length-2 c = search needs
 
 returns : tie.Need-returns
 unfolding answerTo
@@ -39,11 +15,11 @@ pub answer-to-spec : {M : Type 1} → statement M
 answer-to-spec =
     tie.close
     (tie.spec
-    decode-requires
-    text-from-requires
-    perform-requires
-    refused-requires
-    same-length
-    same-length-2
+    (λ c κs. search needs)
+    (λ c κs. search needs)
+    (λ c κs. search needs)
+    (λ c κs. search needs)
+    (λ c. search needs)
+    (λ c. search needs)
     returns
     returns-2)

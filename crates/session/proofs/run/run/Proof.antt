@@ -1,126 +1,95 @@
+use mathlib.Core.Path.{_≡_, refl, sym, _∙_}
+use Prim.Native.Nat.{_+_, _-_, _≤_}
+use native.Mathlib.Omega.{arith}
+use lib.ListN.{length}
+use borrow.Author.Needs.{needs}
+use Rattle.stream.specs.Fields.{within}
+use Rattle.rules.specs.Commands.{over}
+use Rattle.printout.specs.Page.{page}
+use Rattle.session.specs.Run.{ranFrom, printedFrom, printedRun, turned, cut-off, turn-none, turn-end}
 use Rattle.session.proofs.run.run.Statement.{statement}
 use Rattle.session.proofs.run.run.Tie as tie
-use Rattle.session.proofs.run.run.Reads as reads
-use Rattle.session.proofs.run.run.Lts as lts
-use Rattle.rules.proofs.replies.refused.Reads as refused-reads
-use Rattle.session.proofs.run.answer_to.Reads as answer-to-reads
-use Rattle.session.proofs.run.put_answer.Reads as put-answer-reads
-use Rattle.stream.proofs.reader.read_at.Reads as read-at-reads
 
 abbrev Inv-loop : tie.InvT-loop
 Inv-loop table₀ out₀ s paper₀ state₀ at₀ ordinal₀ filled₀ table out paper state at ordinal filled =
-    ?
+    (length table ≡ length table₀)
+    × (length out ≡ length out₀)
+    × (length paper ≡ length paper₀)
+    × (ordinal ≤ at + 1)
+    × (printedFrom ordinal (page paper filled) (ranFrom s (over state table) out at) ≡ printedFrom 1 (page paper₀ 0) (ranFrom s (over state₀ table₀) out₀ 0))
 
 abbrev μ-loop : tie.MeasureT-loop
-μ-loop table₀ out₀ s paper₀ state₀ at₀ ordinal₀ filled₀ table out paper state at ordinal filled = ?
+μ-loop table₀ out₀ s paper₀ state₀ at₀ ordinal₀ filled₀ table out paper state at ordinal filled = length s - at
 
--- src/run.rt:67:5
 loop-holds : tie.Need-loop-holds Inv-loop μ-loop
-loop-holds c = ?
+loop-holds c = (refl, refl, refl, omega arith, refl)
 
--- src/run.rt:68:13
-read-at-requires : tie.Need-read-at-requires Inv-loop μ-loop
-read-at-requires c κs = ?
-
--- src/run.rt:70:28
-enum-known-next : tie.Need-enum-known-next Inv-loop μ-loop
-enum-known-next c = ?
-
--- src/run.rt:71:80
 sub-answer-to : tie.Need-sub-answer-to Inv-loop μ-loop
-sub-answer-to c = ?
+sub-answer-to c = within _ _ _ _ _ (sym (c .before .before .before .before .before .read-at .ensures) ∙ c .before .before .before .next .given .1) .1
 
--- src/run.rt:71:80
 part-answer-to-start : tie.Need-part-answer-to-start Inv-loop μ-loop
-part-answer-to-start c = ?
+part-answer-to-start c = within _ _ _ _ _ (sym (c .before .before .before .before .before .read-at .ensures) ∙ c .before .before .before .next .given .1) .1
 
--- src/run.rt:71:80
 part-answer-to-end : tie.Need-part-answer-to-end Inv-loop μ-loop
-part-answer-to-end c = ?
+part-answer-to-end c = within _ _ _ _ _ (sym (c .before .before .before .before .before .read-at .ensures) ∙ c .before .before .before .next .given .1) .2
 
--- src/run.rt:71:21
-answer-to-requires : tie.Need-answer-to-requires Inv-loop μ-loop
-answer-to-requires c κs = ?
-
--- src/run.rt:72:17
-put-answer-requires : tie.Need-put-answer-requires Inv-loop μ-loop
-put-answer-requires c κs = ?
-
--- src/run.rt:75:17
 add-ordinal : tie.Need-add-ordinal Inv-loop μ-loop
-add-ordinal c = ?
+add-ordinal c = let w = within _ _ _ _ _ (sym (c .before .before .before .before .before .before .before .before .before .before .before .before .before .before .before .before .before .read-at .ensures) ∙ c .before .before .before .before .before .before .before .before .before .before .before .before .before .before .before .next .given .1) in omega (arith, w .0, w .1, w .2, c .before .before .before .before .before .before .before .before .before .before .before .before .before .before .before .before .before .before .before .loop .inv .3)
 
--- src/run.rt:67:5
 loop-less : tie.Need-loop-less Inv-loop μ-loop
-loop-less c = ?
+loop-less c = let w = within _ _ _ _ _ (sym (c .before .before .before .before .before .before .before .before .before .before .before .before .before .before .before .before .before .read-at .ensures) ∙ c .before .before .before .before .before .before .before .before .before .before .before .before .before .before .before .next .given .1) in omega (arith, w .0, w .1)
 
--- src/run.rt:67:5
 loop-again : tie.Need-loop-again Inv-loop μ-loop
-loop-again c = ?
+loop-again c =
+    let e = sym (c .before .before .before .before .before .before .before .before .before .before .before .before .before .before .before .before .before .read-at .ensures) ∙ c .before .before .before .before .before .before .before .before .before .before .before .before .before .before .before .next .given .1 in
+    let w = within _ _ _ _ _ e in (
+      c .before .before .before .before .before .before .before .before .before .before .answer-to .kept .1 .0 ∙ c .before .before .before .before .before .before .before .before .before .before .before .before .before .before .before .before .before .before .before .loop .inv .0,
+      c .before .before .before .before .before .before .before .before .before .before .answer-to .kept .1 .1 .0 ∙ c .before .before .before .before .before .before .before .before .before .before .before .before .before .before .before .before .before .before .before .loop .inv .1,
+      c .before .before .before .put-answer .kept .0 ∙ c .before .before .before .before .before .before .before .before .before .before .before .before .before .before .before .before .before .before .before .loop .inv .2,
+      omega (arith, w .0, w .1, c .before .before .before .before .before .before .before .before .before .before .before .before .before .before .before .before .before .before .before .loop .inv .3),
+      turned _ _ _ _ _ _ _ _ _ e (c .before .before .before .before .before .before .before .before .before .before .before .before .before .before .before .before .before .before .loop-test .taken) _ _ _ (c .before .before .before .before .before .before .before .before .before .before .answer-to .ensures) _ (c .before .before .before .put-answer .ensures) ∙ c .before .before .before .before .before .before .before .before .before .before .before .before .before .before .before .before .before .before .before .loop .inv .4,
+    )
 
--- src/run.rt:77:26
-enum-known-next-2 : tie.Need-enum-known-next-2 Inv-loop μ-loop
-enum-known-next-2 c = ?
-
--- src/run.rt:78:75
-refused-requires : tie.Need-refused-requires Inv-loop μ-loop
-refused-requires c κs = ?
-
--- src/run.rt:78:17
-put-answer-requires-2 : tie.Need-put-answer-requires-2 Inv-loop μ-loop
-put-answer-requires-2 c κs = ?
-
--- src/run.rt:79:17
 same-length : tie.Need-same-length Inv-loop μ-loop
-same-length c = ?
+same-length c = c .before .before .before .before .before .before .before .before .before .before .before .loop .inv .0
 
--- src/run.rt:79:17
 same-length-2 : tie.Need-same-length-2 Inv-loop μ-loop
-same-length-2 c = ?
+same-length-2 c = c .before .before .before .before .before .before .before .before .before .before .before .loop .inv .1
 
--- src/run.rt:79:17
 same-length-3 : tie.Need-same-length-3 Inv-loop μ-loop
-same-length-3 c = ?
+same-length-3 c = c .before .before .put-answer2 .kept .0 ∙ c .before .before .before .before .before .before .before .before .before .before .before .loop .inv .2
 
--- src/run.rt:79:17
 returns : tie.Need-returns Inv-loop μ-loop
-returns c = ?
+unfolding printedRun
+returns c = cut-off _ _ _ _ _ _ _ (sym (c .before .before .before .before .before .before .before .before .before .read-at .ensures) ∙ c .before .before .before .before .before .before .before .next2 .given .1) (c .before .before .before .before .before .before .before .before .before .before .loop-test .taken) _ _ (c .before .before .before .before .refused .ensures) _ (c .before .before .put-answer2 .ensures) ∙ c .before .before .before .before .before .before .before .before .before .before .before .loop .inv .4
 
--- src/run.rt:81:27
-enum-told : tie.Need-enum-told Inv-loop μ-loop
-enum-told c = ?
-
--- src/run.rt:81:27
 same-length-4 : tie.Need-same-length-4 Inv-loop μ-loop
-same-length-4 c = ?
+same-length-4 c = c .before .before .before .before .loop .inv .0
 
--- src/run.rt:81:27
 same-length-5 : tie.Need-same-length-5 Inv-loop μ-loop
-same-length-5 c = ?
+same-length-5 c = c .before .before .before .before .loop .inv .1
 
--- src/run.rt:81:27
 same-length-6 : tie.Need-same-length-6 Inv-loop μ-loop
-same-length-6 c = ?
+same-length-6 c = c .before .before .before .before .loop .inv .2
 
--- src/run.rt:81:27
 returns-2 : tie.Need-returns-2 Inv-loop μ-loop
-returns-2 c = ?
+unfolding printedRun
+returns-2 c = sym (turn-none _ _ _ _ _ _ (sym (c .before .before .read-at .ensures) ∙ c .enum-told .given .1) (c .before .before .before .loop-test .taken)) ∙ c .before .before .before .before .loop .inv .4
 
--- src/run.rt:60:1
 same-length-7 : tie.Need-same-length-7 Inv-loop μ-loop
-same-length-7 c = ?
+same-length-7 c = c .before .loop .inv .0
 
--- src/run.rt:60:1
 same-length-8 : tie.Need-same-length-8 Inv-loop μ-loop
-same-length-8 c = ?
+same-length-8 c = c .before .loop .inv .1
 
--- src/run.rt:60:1
 same-length-9 : tie.Need-same-length-9 Inv-loop μ-loop
-same-length-9 c = ?
+same-length-9 c = c .before .loop .inv .2
 
--- src/run.rt:60:1
 returns-3 : tie.Need-returns-3 Inv-loop μ-loop
-returns-3 c = ?
+unfolding printedRun
+returns-3 c =
+    let h : length (c .before .before .before .before .before .before .args .s .now) ≤ c .before .loop .at = omega arith in
+    sym (turn-end _ _ _ _ _ _ h) ∙ c .before .loop .inv .4
 
 pub run-spec : {M : Type 1} → statement M
 run-spec =
@@ -129,24 +98,24 @@ run-spec =
     Inv-loop
     μ-loop
     loop-holds
-    read-at-requires
-    enum-known-next
+    (λ c κs. search needs)
+    (λ c. search needs)
     sub-answer-to
     part-answer-to-start
     part-answer-to-end
-    answer-to-requires
-    put-answer-requires
+    (λ c κs. search needs)
+    (λ c κs. search needs)
     add-ordinal
     loop-less
     loop-again
-    enum-known-next-2
-    refused-requires
-    put-answer-requires-2
+    (λ c. search needs)
+    (λ c κs. search needs)
+    (λ c κs. search needs)
     same-length
     same-length-2
     same-length-3
     returns
-    enum-told
+    (λ c. search needs)
     same-length-4
     same-length-5
     same-length-6
