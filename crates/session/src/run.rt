@@ -1,13 +1,12 @@
 // A stream carried out: its commands one after the other, and a line for each.
 ghost use mathlib.Core.Path.{_≡_};
-
-ghost use lib.ListN.{take};
 ghost use Rattle.rules.specs.Commands.{left, over};
 ghost use Rattle.printout.specs.Page.{page, entered};
 ghost use Rattle.session.specs.Run.{answerTo, answered, lineOf, leaves, printedRun};
 
 use crate::perform::perform;
 use printout::lines::put_line;
+use printout::page::first_of;
 use rules::Answer;
 use rules::Outcome;
 use rules::replies::refused;
@@ -27,13 +26,6 @@ pub fn answer_to(f: Facility, table: &mut [u8], out: &mut [u8], tag: u8, value: 
     } else {
         refused(f, 16)
     }
-}
-
-// At most so many of the bytes.
-fn first_of(bytes: &[u8], n: usize) -> &[u8]
-    ensures { λ r. ⌜ now r ≡ take n (now (bytes .entry)) ⌝ }
-{
-    if n <= bytes.len() { &bytes[..n] } else { bytes }
 }
 
 // The line of an answer; `out` is the output as the command left it.

@@ -4,8 +4,8 @@ use native.Mathlib.Omega.{arith}
 use lib.ListN.{length}
 use lib.Seq.{take-all, length-take-le}
 use borrow.Author.Needs.{needs}
-use Rattle.session.proofs.run.first_of.Statement.{statement}
-use Rattle.session.proofs.run.first_of.Tie as tie
+use Rattle.printout.proofs.page.first_of.Statement.{statement}
+use Rattle.printout.proofs.page.first_of.Tie as tie
 
 slice-aggregate-result : tie.Need-slice-aggregate-result
 slice-aggregate-result c = let h : c .before .before .args .n ≤ length (c .before .before .args .bytes .now) = omega arith in sym (length-take-le _ _ h)
