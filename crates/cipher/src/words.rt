@@ -1,12 +1,14 @@
 // Bytes, words and bits. The first byte and the first bit of a word stand at the left.
 ghost use mathlib.Core.Path.{_≡_};
+ghost use mathlib.Core.List.{map};
 ghost use Prim.Native.Nat.{_+_, _<_, _≤_, _^_};
 ghost use lib.Dec.{T};
 ghost use lib.ListN.{length, drop, getD};
 ghost use lib.Seq.{sets};
+ghost use Rattle.ground.specs.Rows.{row};
 ghost use Rattle.ground.specs.Tests.{within};
 ghost use Rattle.ground.specs.Lists.{padded};
-ghost use Rattle.cipher.specs.Bits.{permuted, word, bytes};
+ghost use Rattle.cipher.specs.Bits.{bit, permuted, word, bytes};
 
 pub fn wide(x: u8) -> u64
     ensures { λ r. ⌜ (r ≡ x) × (r < 256) ⌝ }
@@ -14,19 +16,29 @@ pub fn wide(x: u8) -> u64
     x as u64
 }
 
-// The bits of `x`, a word of `w` bits, that the table names, in the table's order.
+// `out`, and to its right the bits of `x`, a word of `w` bits, that the entries of the table from `from` to `to` name.
+fn put_bits(out: u64, w: u64, table: &[u8], from: usize, to: usize, x: u64) -> u64
+    requires { ⌜ (w ≤ 64) × (length (now table) ≤ 64) × T (within 1 w (now table)) × (from ≤ to) × (to ≤ length (now table)) × (out < 2 ^ from) ⌝ }
+    ensures { λ r. ⌜ (row 2 r (map (bit w x) (drop to (now (table .entry)))) ≡ row 2 out (map (bit w x) (drop from (now (table .entry))))) × (r < 2 ^ to) ⌝ }
+{
+    let mut bits = out;
+    let mut i = from;
+    while i < to {
+        let n = w - wide(table[i]);
+        bits = bits * 2 + (x >> n) % 2;
+        i += 1;
+    }
+    bits
+}
+
+// The bits of `x`, a word of `w` bits, that the table names, in the table's order. Two shorter runs, since the compiler writes those out.
 pub fn permute(w: u64, table: &[u8], x: u64) -> u64
     requires { ⌜ (w ≤ 64) × (length (now table) ≤ 64) × T (within 1 w (now table)) ⌝ }
     ensures { λ r. ⌜ (r ≡ permuted w (now (table .entry)) x) × (r < 2 ^ length (now (table .entry))) ⌝ }
 {
-    let mut out: u64 = 0;
-    let mut i = 0;
-    while i < table.len() {
-        let n = w - wide(table[i]);
-        out = out * 2 + (x >> n) % 2;
-        i += 1;
-    }
-    out
+    let half = table.len() / 2;
+    let left = put_bits(0, w, table, 0, half, x);
+    put_bits(left, w, table, half, table.len(), x)
 }
 
 fn byte_or_zero(s: &[u8], i: usize) -> u64
