@@ -1,6 +1,5 @@
-// States and tables as they are handed in, written out and not made by commands.
-ghost use Prim.Native.Nat.{_<_, _≤_};
-ghost use lib.ListN.{length};
+// States as they are handed in: written out, and not made by commands.
+ghost use Prim.Native.Nat.{_<_};
 
 use cipher::keys::DataKey;
 use cipher::keys::InterchangeKey;
@@ -28,17 +27,36 @@ pub fn no_key() -> HeldInterchangeKey {
     }
 }
 
-pub fn side(key: bool, vector: bool, bytes: [u8; 8]) -> Side {
-    Side {
-        key: HeldKey {
-            present: key,
-            key: DataKey(bytes),
-        },
-        vector: HeldVector {
-            present: vector,
-            vector: Vector(bytes),
-        },
+pub fn data_key(bytes: [u8; 8]) -> HeldKey {
+    HeldKey {
+        present: true,
+        key: DataKey(bytes),
     }
+}
+
+pub fn no_data_key() -> HeldKey {
+    HeldKey {
+        present: false,
+        key: DataKey([0; 8]),
+    }
+}
+
+pub fn vector(bytes: [u8; 8]) -> HeldVector {
+    HeldVector {
+        present: true,
+        vector: Vector(bytes),
+    }
+}
+
+pub fn no_vector() -> HeldVector {
+    HeldVector {
+        present: false,
+        vector: Vector([0; 8]),
+    }
+}
+
+pub fn side(key: HeldKey, vector: HeldVector) -> Side {
+    Side { key, vector }
 }
 
 // The same on both sides.
@@ -50,7 +68,12 @@ pub fn both(side: Side) -> Holdings {
 }
 
 pub fn nothing() -> Holdings {
-    both(side(false, false, [0; 8]))
+    both(side(no_data_key(), no_vector()))
+}
+
+// These eight bytes as each key and each vector.
+pub fn all_of(bytes: [u8; 8]) -> Holdings {
+    both(side(data_key(bytes), vector(bytes)))
 }
 
 pub fn place(user: u32, holdings: Holdings) -> Place {
@@ -61,28 +84,38 @@ pub fn place(user: u32, holdings: Holdings) -> Place {
     }
 }
 
+// A free place: nobody's, whatever it holds.
+pub fn free(holdings: Holdings) -> Place {
+    Place {
+        taken: false,
+        user: 0,
+        holdings,
+    }
+}
+
 // Interchange 1 has these keys and the others none; no users.
 pub fn facility(current: HeldInterchangeKey, old: HeldInterchangeKey, due: bool) -> Facility {
     let mut current_keys = [no_key(); 15];
     let mut old_keys = [no_key(); 15];
     current_keys[0] = current;
     old_keys[0] = old;
-    let free = Place {
-        taken: false,
-        user: 0,
-        holdings: nothing(),
-    };
+    let places = [free(nothing()); 16];
     Facility {
         current_keys,
         old_keys,
         due,
-        places: [free; 16],
+        places,
     }
 }
 
 // In turn, with a current key that user 5's published answers go with.
 pub fn ready() -> Facility {
     facility(key(LOW_KEY), no_key(), false)
+}
+
+// The same with user 5 active.
+pub fn active(holdings: Holdings) -> Facility {
+    seated(ready(), 0, place(5, holdings))
 }
 
 pub fn seated(f: Facility, i: usize, p: Place) -> Facility
@@ -95,25 +128,9 @@ pub fn seated(f: Facility, i: usize, p: Place) -> Facility
     g
 }
 
-// Over the last whole entry of the table, where there is one.
-pub fn put_last(table: &mut [u8], entry: [u8; 12]) {
-    let n = table.len() / 12;
-    if 0 < n {
-        let at = (n - 1) * 12;
-        let end = at + 12;
-        bytes::copy(&entry, &mut table[at..end]);
-    }
-}
-
-// Entry k of the table, counted from 0; zeros where there is none.
-pub fn entry_at(table: &[u8], k: usize) -> [u8; 12]
-    requires { ⌜ k ≤ 4096 ⌝ }
+pub fn place_at(f: Facility, i: usize) -> Place
+    requires { ⌜ i < 16 ⌝ }
 {
-    let mut entry = [0u8; 12];
-    let at = k * 12;
-    let end = at + 12;
-    if end <= table.len() {
-        bytes::copy(&table[at..end], &mut entry);
-    }
-    entry
+    let places = f.places;
+    places[i]
 }

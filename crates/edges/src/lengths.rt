@@ -1,14 +1,17 @@
 // Refusal 2: a table of 0, 12 and 49152 bytes passes, of 13 and 49164 not.
-use crate::given::entry_at;
+use crate::entries::FIVE;
+use crate::entries::entry;
+use crate::entries::entry_at;
+use crate::entries::put_last;
+use crate::given::active;
 use crate::given::facility;
 use crate::given::key;
 use crate::given::nothing;
-use crate::given::place;
-use crate::given::put_last;
 use crate::given::ready;
-use crate::given::seated;
 use crate::published::HIGH_KEY;
+use crate::published::HIGH_ONES;
 use crate::published::LOW_KEY;
+use crate::published::LOW_ZEROS;
 use crate::published::ONES;
 use crate::published::ZEROS;
 use crate::report::Tally;
@@ -18,14 +21,6 @@ use facility::officer::ipw;
 use facility::officer::rpw;
 use facility::users::cpw;
 use facility::users::ras;
-
-// User 5 with the password ZEROS, under the key 01x8; with ONES, under FEx8.
-const BEFORE: [u8; 12] = [
-    0, 0, 0, 5, 0x8C, 0xA6, 0x4D, 0xE9, 0xC1, 0xB1, 0x23, 0xA7,
-];
-const AFTER: [u8; 12] = [
-    0, 0, 0, 5, 0x73, 0x59, 0xB2, 0x16, 0x3E, 0x4E, 0xDC, 0x58,
-];
 
 // What the four commands that look at the table's length should reply.
 struct Replies {
@@ -46,8 +41,7 @@ fn with_ras(t: Tally, words: &[u8], table: &[u8], expected: u8) -> Tally {
 }
 
 fn with_cpw(t: Tally, words: &[u8], table: &mut [u8], expected: u8) -> Tally {
-    let active = seated(ready(), 0, place(5, nothing()));
-    let met = cpw(active, &mut table[..], 5, ZEROS, ONES);
+    let met = cpw(active(nothing()), &mut table[..], 5, ZEROS, ONES);
     reply(t, b"CPW", words, expected, met)
 }
 
@@ -60,7 +54,7 @@ fn with_rpw(t: Tally, words: &[u8], table: &mut [u8], expected: u8) -> Tally {
 // The table comes with free entries only; after IPW its last entry becomes user 5's.
 fn over(t: Tally, words: &[u8], table: &mut [u8], expected: Replies) -> Tally {
     let t = with_ipw(t, words, &mut table[..], expected.ipw);
-    put_last(&mut table[..], BEFORE);
+    put_last(&mut table[..], entry(FIVE, LOW_ZEROS));
     let t = with_ras(t, words, &table[..], expected.ras);
     let t = with_cpw(t, words, &mut table[..], expected.cpw);
     with_rpw(t, words, &mut table[..], expected.rpw)
@@ -105,7 +99,8 @@ fn shortest(t: Tally) -> Tally {
 fn longest(t: Tally) -> Tally {
     let mut table = [0xFFu8; 49152];
     let t = over(t, b"a table of 49152 bytes", &mut table, passes());
-    left(t, b"RPW", b"the last of 4096 entries", &AFTER, &entry_at(&table, 4095))
+    let last = entry_at(&table, 4095);
+    left(t, b"RPW", b"the last of 4096 entries", &entry(FIVE, HIGH_ONES), &last)
 }
 
 fn too_long(t: Tally) -> Tally {

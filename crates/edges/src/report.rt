@@ -82,14 +82,36 @@ pub fn reply(t: Tally, command: &[u8], words: &[u8], expected: u8, met: Outcome)
     compared(t, command, words, expected as u64, number_of(answer) as u64)
 }
 
-// A number that a command leaves or writes.
-pub fn count(t: Tally, command: &[u8], words: &[u8], expected: u32, met: u32) -> Tally {
-    compared(t, command, words, expected as u64, met as u64)
+fn written(answer: Answer) -> usize {
+    match answer {
+        Answer::Done => 0,
+        Answer::Gave(n) => 0,
+        Answer::Wrote(n) => n,
+        Answer::Refused(n) => 0,
+    }
 }
 
-// A mark: DUE, taken, present.
+// How many bytes of the output a command says that it wrote.
+pub fn wrote(t: Tally, command: &[u8], words: &[u8], expected: usize, met: Outcome) -> Tally {
+    let answer = met.answer;
+    compared(t, command, words, expected as u64, written(answer) as u64)
+}
+
+fn yes_or_no(b: bool) {
+    if b {
+        text(b"yes");
+    } else {
+        text(b"no");
+    }
+}
+
+// Whether something is so.
 pub fn mark(t: Tally, command: &[u8], words: &[u8], expected: bool, met: bool) -> Tally {
-    compared(t, command, words, expected as u64, met as u64)
+    case(command, words);
+    yes_or_no(expected);
+    text(b", met ");
+    yes_or_no(met);
+    counted(t, met == expected)
 }
 
 // Bytes that a command leaves, gives or writes.
@@ -99,6 +121,11 @@ pub fn left(t: Tally, command: &[u8], words: &[u8], expected: &[u8], met: &[u8])
     text(b", met ");
     bytes(met);
     counted(t, same(met, expected))
+}
+
+// A key, a vector or a block.
+pub fn eight(t: Tally, command: &[u8], words: &[u8], expected: [u8; 8], met: [u8; 8]) -> Tally {
+    left(t, command, words, &expected, &met)
 }
 
 // The last line.
