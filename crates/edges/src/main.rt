@@ -2,6 +2,7 @@
 mod entries;
 mod flat;
 mod given;
+mod held_keys;
 mod identifiers;
 mod lengths;
 mod places;
@@ -17,5 +18,6 @@ fn main() {
     let t = identifiers::all(t);
     let t = tables::all(t);
     let t = places::all(t);
+    let t = held_keys::all(t);
     report::total(t);
 }
