@@ -109,7 +109,7 @@ fn issuer(t: Tally, words: &[u8], user: u32, expected: u8) -> Tally {
 
 pub fn all(t: Tally) -> Tally {
     let t = issuer(t, b"of user 268435455", 268435455, 0);
-    let t = issuer(t, b"of user 268435456, who has a place", 268435456, 1);
+    let t = issuer(t, b"of user 268435456", 268435456, 1);
     let t = parties(t, b"party 268435455", 268435455, 0);
     parties(t, b"party 268435456", 268435456, 1)
 }
