@@ -57,15 +57,18 @@ fn shown(t: Tally, words: &[u8], present: bool, bytes: [u8; 8], met: HeldInterch
     eight(t, b"EIK", b"its bytes", bytes, held)
 }
 
-fn old_becomes_missing(t: Tally) -> Tally {
-    let f = with_second(facility(no_key(), no_key(), false), no_key(), key(LOW_KEY));
-    let met = eik(f, 2, HIGH_KEY);
-    let t = reply(t, b"EIK", b"an old key there, and no current one", 0, met);
-    let g = met.state;
+fn second_shown(t: Tally, g: Facility) -> Tally {
     let current = g.current_keys[1];
     let old = g.old_keys[1];
     let t = shown(t, b"then the current key there", true, HIGH_KEY, current);
     shown(t, b"then the old key there", false, ZEROS, old)
+}
+
+fn old_becomes_missing(t: Tally) -> Tally {
+    let f = with_second(facility(no_key(), no_key(), false), no_key(), key(LOW_KEY));
+    let met = eik(f, 2, HIGH_KEY);
+    let t = reply(t, b"EIK", b"an old key there, and no current one", 0, met);
+    second_shown(t, met.state)
 }
 
 fn due_after(t: Tally, words: &[u8], f: Facility, name: u8, expected: bool) -> Tally {
@@ -74,15 +77,17 @@ fn due_after(t: Tally, words: &[u8], f: Facility, name: u8, expected: bool) -> T
     mark(t, b"EIK", b"then DUE", expected, met.state.due)
 }
 
-fn due_set(t: Tally) -> Tally {
-    let none = facility(no_key(), no_key(), false);
-    let only_old = facility(no_key(), key(LOW_KEY), false);
-    let current = facility(key(LOW_KEY), no_key(), false);
-    let second = with_second(none, key(LOW_KEY), no_key());
-    let due = with_second(facility(key(LOW_KEY), key(LOW_KEY), true), key(LOW_KEY), no_key());
-    let t = due_after(t, b"of 1, no key of it", none, 1, false);
-    let t = due_after(t, b"of 1, only an old key of it", only_old, 1, false);
-    let t = due_after(t, b"of 1, a current key of it", current, 1, true);
+fn due_of_one(t: Tally) -> Tally {
+    let low = key(LOW_KEY);
+    let t = due_after(t, b"of 1, no key of it", facility(no_key(), no_key(), false), 1, false);
+    let t = due_after(t, b"of 1, only an old key of it", facility(no_key(), low, false), 1, false);
+    due_after(t, b"of 1, a current key of it", facility(low, no_key(), false), 1, true)
+}
+
+fn due_of_another(t: Tally) -> Tally {
+    let low = key(LOW_KEY);
+    let second = with_second(facility(no_key(), no_key(), false), low, no_key());
+    let due = with_second(facility(low, low, true), low, no_key());
     let t = due_after(t, b"of 2, a current key of it", second, 2, false);
     due_after(t, b"of 2, a current key of it, while DUE", due, 2, true)
 }
@@ -187,7 +192,7 @@ fn without_receive_key(t: Tally) -> Tally {
 }
 
 pub fn all(t: Tally) -> Tally {
-    let t = dead_ends(due_set(old_becomes_missing(t)));
+    let t = dead_ends(due_of_another(due_of_one(old_becomes_missing(t))));
     let t = data_key_moved(keyless_change(keyless(t)));
     without_receive_key(even_parity(t))
 }

@@ -59,7 +59,10 @@ fn first_counts(t: Tally) -> Tally {
     let mut out = [0u8; 8];
     let met = by_mode(doubled(), 5, Mode::Ecbe, &ZEROS, &mut out);
     let t = reply(t, b"ECBE", b"nothing loaded in the first of two places", 10, met);
-    let t = reply(t, b"RAS", b"of a user with two places", 4, admitted(doubled()));
+    reply(t, b"RAS", b"of a user with two places", 4, admitted(doubled()))
+}
+
+fn first_loaded(t: Tally) -> Tally {
     let met = ldk(doubled(), 5, 5, 1, b's', LOW_HIGH_BIT);
     let t = reply(t, b"LDK", b"of a user with two places", 0, met);
     let loaded = place(5, both(side(data_key(HIGH_BIT), no_vector())));
@@ -73,7 +76,10 @@ fn second_counts(t: Tally, f: Facility) -> Tally {
     let mut out = [0u8; 8];
     let met = by_mode(f, 5, Mode::Ecbe, &ZEROS, &mut out);
     let t = reply(t, b"ECBE", b"by the key in the second place", 0, met);
-    let t = eight(t, b"ECBE", b"the output", HIGH_ZEROS, out);
+    eight(t, b"ECBE", b"the output", HIGH_ZEROS, out)
+}
+
+fn second_freed(t: Tally, f: Facility) -> Tally {
     let met = lau(f, 5);
     let t = reply(t, b"LAU", b"of the second place", 0, met);
     let t = holds(t, b"LAU", b"the second place", free(nothing()), place_at(met.state, 9));
@@ -85,7 +91,7 @@ fn first_freed(t: Tally) -> Tally {
     let t = reply(t, b"LAU", b"of a user with two places", 0, met);
     let t = holds(t, b"LAU", b"the first place", free(nothing()), place_at(met.state, 2));
     let t = holds(t, b"LAU", b"the second place", place(5, all_of(ONES)), place_at(met.state, 9));
-    second_counts(t, met.state)
+    second_freed(second_counts(t, met.state), met.state)
 }
 
 // ---- the first free place, and a freed one
@@ -126,10 +132,13 @@ fn emptied(t: Tally, name: &[u8], before: Facility, met: Outcome) -> Tally {
 
 fn nothing_stays(t: Tally) -> Tally {
     let loaded = seated(holed(), 4, place(5, all_of(ONES)));
-    let marked = seated(holed(), 4, place(5, leftover()));
     let t = emptied(t, b"LAU", loaded, lau(loaded, 5));
+    emptied(t, b"host logout", loaded, host_logout(loaded, 5))
+}
+
+fn nothing_missing_stays(t: Tally) -> Tally {
+    let marked = seated(holed(), 4, place(5, leftover()));
     let t = emptied(t, b"LAU, marked missing", marked, lau(marked, 5));
-    let t = emptied(t, b"host logout", loaded, host_logout(loaded, 5));
     reply(t, b"LAU", b"of user 0 while all places are free", 3, lau(ready(), 0))
 }
 
@@ -150,33 +159,33 @@ fn never_freed(t: Tally) -> Tally {
     reply(t, b"RAS", b"all places still taken by 268435456", 8, admitted(met.state))
 }
 
-fn seat(user: u32) -> Place {
-    place(user, nothing())
-}
-
 // Users 100 to 115.
 fn sixteen() -> Facility {
     let mut f = ready();
-    let places = [
-        seat(100), seat(101), seat(102), seat(103), seat(104), seat(105), seat(106), seat(107),
-        seat(108), seat(109), seat(110), seat(111), seat(112), seat(113), seat(114), seat(115),
-    ];
-    f.places = places;
+    let mut i: usize = 0;
+    while i < 16 {
+        f.places[i] = place(100 + i as u32, nothing());
+        i += 1;
+    }
     f
+}
+
+fn admitted_later(t: Tally, f: Facility) -> Tally {
+    let met = admitted(f);
+    let t = reply(t, b"RAS", b"of a seventeenth user once more", 0, met);
+    let t = holds(t, b"RAS", b"place 7", place(5, nothing()), place_at(met.state, 7));
+    mark(t, b"RAS", b"all other places unaltered", true, are_others_alike(sixteen(), met.state, 7))
 }
 
 fn seventeenth(t: Tally) -> Tally {
     let t = reply(t, b"RAS", b"of a seventeenth user", 8, admitted(sixteen()));
     let met = lau(sixteen(), 107);
     let t = reply(t, b"LAU", b"of one of sixteen, in place 7", 0, met);
-    let met = admitted(met.state);
-    let t = reply(t, b"RAS", b"of a seventeenth user once more", 0, met);
-    let t = holds(t, b"RAS", b"place 7", seat(5), place_at(met.state, 7));
-    mark(t, b"RAS", b"all other places unaltered", true, are_others_alike(sixteen(), met.state, 7))
+    admitted_later(t, met.state)
 }
 
 pub fn all(t: Tally) -> Tally {
-    let t = first_freed(first_counts(t));
-    let t = nothing_stays(hole_filled(t));
+    let t = first_freed(first_loaded(first_counts(t)));
+    let t = nothing_missing_stays(nothing_stays(hole_filled(t)));
     seventeenth(never_freed(t))
 }
