@@ -28,11 +28,17 @@ static uint64_t ras(uint64_t n) { return speed_ras(short_table, sizeof short_tab
 
 static uint64_t rpw(uint64_t n) { return speed_rpw(table, sizeof table, n); }
 
-// RPW: every entry a user's. RAS: NOTARY's 64 entries, the user's the last.
+// RPW: every entry another user's, with bytes of its own. RAS: NOTARY's 64 entries, the user's the last.
 static void prepare(void)
 {
-    for (size_t i = 0; i < ENTRIES; i++)
-        memcpy(table + i * ENTRY, USER_5, ENTRY);
+    for (size_t i = 0; i < ENTRIES; i++) {
+        uint64_t mixed = (i + 1) * 0x9E3779B97F4A7C15;
+        uint32_t user = (uint32_t)(mixed >> 36);
+        for (size_t k = 0; k < 4; k++)
+            table[i * ENTRY + k] = (uint8_t)(user >> (24 - 8 * k));
+        for (size_t k = 0; k < 8; k++)
+            table[i * ENTRY + 4 + k] = (uint8_t)(mixed * 0xBF58476D1CE4E5B9 >> (56 - 8 * k));
+    }
     memset(short_table, 0xFF, sizeof short_table);
     memcpy(short_table + sizeof short_table - ENTRY, USER_5, ENTRY);
 }
