@@ -9,7 +9,11 @@ use crate::write;
 use std::io::Result;
 use std::time::{Duration, Instant};
 
-const RUNS: usize = 3;
+/// The shortest of so many runs counts; the two take turns.
+const RUNS: usize = 9;
+
+/// How many times the model's time the program may take.
+const MOST: f64 = 3.0;
 
 /// Sixty-four users, then EIK of name 1 and RPW in turn until 65536 bytes are full:
 /// each RPW deciphers and enciphers sixty-four blocks, every one of them under a key of its own.
@@ -33,30 +37,29 @@ pub fn stream() -> Vec<u8> {
     stream
 }
 
-/// The shortest of some runs, and what the program printed.
+/// How long one run takes, and what the program printed.
 fn time_of(program: &Program, stream: &[u8]) -> Result<(Duration, Vec<u8>)> {
-    let mut shortest = Duration::MAX;
-    let mut printed = Vec::new();
-    for _ in 0..RUNS {
-        let start = Instant::now();
-        printed = program.run(stream, stream.len())?.stdout;
-        shortest = shortest.min(start.elapsed());
-    }
-    Ok((shortest, printed))
+    let start = Instant::now();
+    let printed = program.run(stream, stream.len())?.stdout;
+    Ok((start.elapsed(), printed))
 }
 
-/// Times both as children on the slowest stream; true where they print the same.
+/// Times both as children on the slowest stream; true where they print the same, and the program takes at most `MOST` times the model's time.
 pub fn time(program: Program) -> Result<bool> {
     let own = std::env::current_exe()?.to_string_lossy().into_owned();
     let model = Program { path: own, args: vec!["run".to_string()] };
     let slowest = stream();
-    let (models_time, models_lines) = time_of(&model, &slowest)?;
-    let (programs_time, programs_lines) = time_of(&program, &slowest)?;
+    let (mut models_time, models_lines) = time_of(&model, &slowest)?;
+    let (mut programs_time, programs_lines) = time_of(&program, &slowest)?;
+    for _ in 1..RUNS {
+        models_time = models_time.min(time_of(&model, &slowest)?.0);
+        programs_time = programs_time.min(time_of(&program, &slowest)?.0);
+    }
     let (models, programs) = (models_time.as_secs_f64(), programs_time.as_secs_f64());
     let same = models_lines == programs_lines;
     println!(
         "time: model {models:.3} s, program {programs:.3} s, ratio {:.2}, same lines: {same}",
         programs / models
     );
-    Ok(same)
+    Ok(same && programs <= MOST * models)
 }
