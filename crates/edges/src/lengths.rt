@@ -17,10 +17,10 @@ use crate::published::ZEROS;
 use crate::report::Tally;
 use crate::report::left;
 use crate::report::reply;
-use facility::officer::ipw;
-use facility::officer::rpw;
-use facility::users::cpw;
-use facility::users::ras;
+use officer::ipw;
+use officer::rpw;
+use admission::cpw;
+use admission::ras;
 
 // What the four commands that look at the table's length should reply.
 struct Replies {

@@ -24,10 +24,10 @@ use crate::published::ZEROS;
 use crate::report::Tally;
 use crate::report::left;
 use crate::report::reply;
-use facility::officer::ipw;
-use facility::officer::rpw;
-use facility::users::cpw;
-use facility::users::ras;
+use officer::ipw;
+use officer::rpw;
+use admission::cpw;
+use admission::ras;
 
 // A table before a command, and as it should be after.
 struct Change {

@@ -9,8 +9,8 @@ use crate::report::eight;
 use crate::report::left;
 use crate::report::reply;
 use crate::report::wrote;
-use facility::data::by_mode;
-use facility::data::daut;
+use records::by_mode;
+use records::daut;
 
 // User 5's keys and vectors are all zeros, so that each mode takes a block of zeros to LOW_ZEROS, or LOW_ZEROS to zeros.
 struct Block {

@@ -12,7 +12,7 @@ use Rattle.state.specs.State.{Bytes}
 use Rattle.rules.specs.declared.Outcome.{Outcome}
 use Rattle.rules.specs.Commands.{UserCommand, RAS, LAU, CPW, GDK, LDK, GIV, LIV, EIV, RDK, mode, DAUT, Command, by, EIK, IPW, RPW, logout}
 use Rattle.rules.specs.Commands.{World, Own, numberOf, left, modeRefusals, refusals, tests, step}
-use Rattle.session.specs.Requests.{commandOf, carriedOut, performed}
+use Rattle.facility.specs.Requests.{commandOf, carriedOut, performed}
 use Rattle.properties.specs.Determined.{same}
 use Rattle.properties.specs.Demand1.{holds, demand-1}
 

@@ -19,7 +19,7 @@ use Rattle.rules.specs.declared.Answer.the-variants.{Done, Gave, Wrote, Refused
 use Rattle.rules.specs.declared.Outcome.{Outcome}
 use Rattle.rules.specs.Commands.{World, Result, result, Told, plain, numberOf, refusedOf, over as world, left as leftBy}
 use Rattle.state.specs.declared.Facility.{Facility}
-use Rattle.session.specs.Requests.{performed}
+use Rattle.facility.specs.Requests.{performed}
 
 -- ---- one command
 

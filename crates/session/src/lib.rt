@@ -1,3 +1,2 @@
-// A stream carried out on a facility: any decoded command, and all commands of a stream with a line for each.
-pub mod perform;
+// A stream carried out on a facility, with a line for each command.
 pub mod run;

@@ -4,7 +4,7 @@ ghost use Rattle.rules.specs.Commands.{left, over};
 ghost use Rattle.printout.specs.Page.{page, entered};
 ghost use Rattle.session.specs.Run.{answerTo, answered, lineOf, leaves, printedRun};
 
-use crate::perform::perform;
+use facility::perform;
 use printout::lines::put_line;
 use printout::page::first_of;
 use rules::Answer;

@@ -5,10 +5,10 @@
 use cipher::keys::DataKey;
 use cipher::keys::InterchangeKey;
 use cipher::modes::Mode;
-use facility::data::by_mode;
-use facility::data_keys::ldk;
-use facility::officer::rpw;
-use facility::users::ras;
+use records::by_mode;
+use exchange::data_keys::ldk;
+use officer::rpw;
+use admission::ras;
 use rules::Answer;
 use rules::Outcome;
 use state::Facility;

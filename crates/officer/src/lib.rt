@@ -1,0 +1,106 @@
+// EIK, IPW and RPW: the officer enters keys and passwords.
+ghost use mathlib.Core.Path.{_≡_};
+ghost use Rattle.rules.specs.Commands.{EIK, IPW, RPW, lacksEntry, outOfTurn, undue, Steps, StepsTable};
+
+use cipher::keys::InterchangeKey;
+use keys::set_parity;
+use rules::Outcome;
+use rules::conditions::first;
+use rules::conditions::own_name;
+use rules::replies::done;
+use rules::replies::refused;
+use state::Facility;
+use state::interchanges::change_key;
+use state::interchanges::current_key;
+use state::interchanges::is_name;
+use state::interchanges::old_key;
+use table::entries::FREE;
+use table::entries::enrol;
+use table::entries::has_entry;
+use table::entries::is_fit;
+use table::passwords::is_big;
+use table::passwords::is_same;
+use table::passwords::move_all;
+use table::passwords::seal_password;
+
+pub fn eik(f: Facility, interchange: u8, key: [u8; 8]) -> Outcome
+    ensures { λ r. ⌜ Steps f (EIK interchange key) r ⌝ }
+{
+    let t6 = !is_name(interchange);
+    let t7 = own_name(interchange, f.due, false);
+    let t14 = !is_same(key, set_parity(key));
+    let n = first(6, t6, first(7, t7, first(14, t14, 0)));
+    if n != 0 {
+        return refused(f, n);
+    }
+    let current = current_key(f, 1);
+    let due = own_name(interchange, current.present, f.due);
+    done(change_key(f, interchange, InterchangeKey(key), due))
+}
+
+// No entry of the user, and no free entry.
+fn lacks_entry(table: &[u8], user: u32) -> bool
+    ensures { λ r. ⌜ r ≡ lacksEntry user (now (table .entry)) ⌝ }
+{
+    if has_entry(table, user) {
+        false
+    } else {
+        !has_entry(table, FREE)
+    }
+}
+
+pub fn ipw(f: Facility, table: &mut [u8], user: u32, password: [u8; 8]) -> Outcome
+    ensures { λ r. ⌜ StepsTable f (now (table .entry)) (IPW user password) r (now (table .exit)) ⌝ }
+{
+    let key = current_key(f, 1);
+    let t1 = is_big(user);
+    let t2 = !is_fit(table.len());
+    let t15 = lacks_entry(&table[..], user);
+    let later = first(6, !key.present, first(7, f.due, first(15, t15, 0)));
+    let n = first(1, t1, first(2, t2, later));
+    if n != 0 {
+        return refused(f, n);
+    }
+    enrol(&mut table[..], user, seal_password(key.key, user, password));
+    done(f)
+}
+
+// Not DUE, or one of the two keys of interchange 1 is missing.
+fn is_out_of_turn(f: Facility) -> bool
+    ensures { λ r. ⌜ r ≡ outOfTurn f ⌝ }
+{
+    let old = old_key(f, 1);
+    let current = current_key(f, 1);
+    if f.due {
+        if old.present {
+            !current.present
+        } else {
+            true
+        }
+    } else {
+        true
+    }
+}
+
+fn not_due(f: Facility) -> Facility
+    ensures { λ r. ⌜ r ≡ undue f ⌝ }
+{
+    let mut g = f;
+    g.due = false;
+    g
+}
+
+pub fn rpw(f: Facility, table: &mut [u8]) -> Outcome
+    ensures { λ r. ⌜ StepsTable f (now (table .entry)) RPW r (now (table .exit)) ⌝ }
+{
+    let old = old_key(f, 1);
+    let current = current_key(f, 1);
+    let t2 = !is_fit(table.len());
+    let t7 = is_out_of_turn(f);
+    let n = first(2, t2, first(7, t7, 0));
+    if n != 0 {
+        return refused(f, n);
+    }
+    move_all(&mut table[..], old.key, current.key);
+    done(not_due(f))
+}

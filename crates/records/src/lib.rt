@@ -1,0 +1,105 @@
+// The six modes, and DAUT.
+ghost use mathlib.Core.Path.{_≡_};
+ghost use Rattle.cipher.specs.declared.modes.Mode.the-variants.{Ecbe, Ecbd, Cbce, Cbcd, Cfbe, Cfbd};
+ghost use Rattle.rules.specs.Commands.{by, mode, DAUT, Steps, StepsOutput};
+
+use cipher::fixity::fixity_of;
+use cipher::modes::Mode;
+use cipher::modes::apply;
+use rules::Outcome;
+use rules::conditions::first;
+use rules::conditions::function_of;
+use rules::conditions::is_bad_blocks;
+use rules::conditions::is_bad_length;
+use rules::conditions::is_unknown;
+use rules::conditions::lacks_vector;
+use rules::replies::given;
+use rules::replies::refused;
+use rules::replies::wrote;
+use rules::sides::after_mode;
+use rules::sides::mode_side;
+use rules::sides::side_for;
+use state::Facility;
+use state::places::keep;
+use state::places::seat_of;
+use table::passwords::is_big;
+
+// What the six commands below share.
+pub fn by_mode(f: Facility, issuer: u32, which: Mode, text: &[u8], out: &mut [u8]) -> Outcome
+    ensures { λ r. ⌜ StepsOutput f (now (out .entry)) (by issuer (mode which (now (text .entry)))) r (now (out .exit)) ⌝ }
+{
+    let seat = seat_of(f, issuer);
+    let side = mode_side(which, seat.holdings);
+    let key = side.key;
+    let vector = side.vector;
+    let t1 = is_big(issuer);
+    let t11 = lacks_vector(which, vector.present);
+    let t12 = is_bad_blocks(text.len());
+    let t13 = out.len() < text.len();
+    let later = first(11, t11, first(12, t12, first(13, t13, 0)));
+    let n = first(1, t1, first(3, !seat.active, first(10, !key.present, later)));
+    if n != 0 {
+        return refused(f, n);
+    }
+    let applied = apply(which, key.key, vector.vector, text, &mut out[..]);
+    let after = after_mode(which, applied.vector, seat.holdings);
+    wrote(keep(f, issuer, after), text.len())
+}
+
+pub fn ecbe(f: Facility, issuer: u32, text: &[u8], out: &mut [u8]) -> Outcome
+    ensures { λ r. ⌜ StepsOutput f (now (out .entry)) (by issuer (mode Ecbe (now (text .entry)))) r (now (out .exit)) ⌝ }
+{
+    by_mode(f, issuer, Mode::Ecbe, text, &mut out[..])
+}
+
+pub fn ecbd(f: Facility, issuer: u32, text: &[u8], out: &mut [u8]) -> Outcome
+    ensures { λ r. ⌜ StepsOutput f (now (out .entry)) (by issuer (mode Ecbd (now (text .entry)))) r (now (out .exit)) ⌝ }
+{
+    by_mode(f, issuer, Mode::Ecbd, text, &mut out[..])
+}
+
+pub fn cbce(f: Facility, issuer: u32, text: &[u8], out: &mut [u8]) -> Outcome
+    ensures { λ r. ⌜ StepsOutput f (now (out .entry)) (by issuer (mode Cbce (now (text .entry)))) r (now (out .exit)) ⌝ }
+{
+    by_mode(f, issuer, Mode::Cbce, text, &mut out[..])
+}
+
+pub fn cbcd(f: Facility, issuer: u32, text: &[u8], out: &mut [u8]) -> Outcome
+    ensures { λ r. ⌜ StepsOutput f (now (out .entry)) (by issuer (mode Cbcd (now (text .entry)))) r (now (out .exit)) ⌝ }
+{
+    by_mode(f, issuer, Mode::Cbcd, text, &mut out[..])
+}
+
+pub fn cfbe(f: Facility, issuer: u32, text: &[u8], out: &mut [u8]) -> Outcome
+    ensures { λ r. ⌜ StepsOutput f (now (out .entry)) (by issuer (mode Cfbe (now (text .entry)))) r (now (out .exit)) ⌝ }
+{
+    by_mode(f, issuer, Mode::Cfbe, text, &mut out[..])
+}
+
+pub fn cfbd(f: Facility, issuer: u32, text: &[u8], out: &mut [u8]) -> Outcome
+    ensures { λ r. ⌜ StepsOutput f (now (out .entry)) (by issuer (mode Cfbd (now (text .entry)))) r (now (out .exit)) ⌝ }
+{
+    by_mode(f, issuer, Mode::Cfbd, text, &mut out[..])
+}
+
+// Over the plain record: t and s by the transmit side, r by the receive side.
+pub fn daut(f: Facility, issuer: u32, function: u8, plain: &[u8]) -> Outcome
+    ensures { λ r. ⌜ Steps f (by issuer (DAUT function (now (plain .entry)))) r ⌝ }
+{
+    let seat = seat_of(f, issuer);
+    let asked = function_of(function);
+    let side = side_for(asked, seat.holdings);
+    let key = side.key;
+    let vector = side.vector;
+    let t1 = is_big(issuer);
+    let t5 = is_unknown(asked);
+    let t12 = is_bad_length(plain.len());
+    let later = first(10, !key.present, first(11, !vector.present, first(12, t12, 0)));
+    let n = first(1, t1, first(3, !seat.active, first(5, t5, later)));
+    if n != 0 {
+        return refused(f, n);
+    }
+    let fixity = fixity_of(key.key, vector.vector, plain);
+    let value = fixity.value;
+    given(f, value)
+}
