@@ -1,4 +1,4 @@
--- "Commands and their replies": the page's table. Each refusal's condition stands once; each command has its list of refusals and its effect.
+-- "Commands and their replies": the page's table. Each command has its list of refusals and its effect.
 use mathlib.Core.Path.{_≡_, refl, sym, _∙_}
 use mathlib.Core.Bool.{Bool, true, false, cond, not}
 use mathlib.Core.Option.{Option, none, some}
@@ -132,7 +132,7 @@ pub record Own : Type 0 where
   pub entry : Option Bytes
   pub seat : Seat  -- whether the issuer is active, and what he then holds
 
--- ---- "Refusal numbers": each condition, once
+-- ---- "Refusal numbers": each condition, once for all users' commands (the officer's few stand with `tests`)
 
 pub record Test : Type 0 where
   pub number : ℕ
@@ -223,7 +223,7 @@ modeRefusals Cbcd u d room o = r1 u ∷ r3 o ∷ r10 (modeSide Cbcd (o .seat .ho
 modeRefusals Cfbe u d room o = r1 u ∷ r3 o ∷ r10 (modeSide Cfbe (o .seat .holdings)) ∷ r11 (modeSide Cfbe (o .seat .holdings)) ∷ r12⁸ d ∷ r13 d room ∷ []
 modeRefusals Cfbd u d room o = r1 u ∷ r3 o ∷ r10 (modeSide Cfbd (o .seat .holdings)) ∷ r11 (modeSide Cfbd (o .seat .holdings)) ∷ r12⁸ d ∷ r13 d room ∷ []
 
--- the same as one list, with 11 asked of CBC and CFB only
+-- 11 is asked of CBC and CFB only
 unfoldable pub lacksVector : Mode → Bool → Bool
 lacksVector Ecbe present = false
 lacksVector Ecbd present = false

@@ -1,11 +1,9 @@
 // The conditions of the refusals.
 ghost use mathlib.Core.Path.{_≡_};
-ghost use mathlib.Core.Bool.{not};
 ghost use Rattle.rules.specs.Commands.{bigPair, functionOf, unknown, wrongPair, badLength, badBlocks, lacksVector, ofOwn, test};
 
 use crate::Function;
 use cipher::modes::Mode;
-use state::Side;
 use table::passwords::is_big;
 
 pub fn is_big_pair(issuer: u32, party: u32) -> bool

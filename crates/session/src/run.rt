@@ -14,6 +14,7 @@ use state::Facility;
 use stream::Field;
 use stream::commands::decode;
 use stream::commands::text_from;
+use stream::fields::value_at;
 use stream::reader::read_at;
 
 // The command of this tag and value: 16 where the value is not that of a command with this tag.
@@ -59,8 +60,8 @@ pub fn run(f: Facility, table: &mut [u8], out: &mut [u8], s: &[u8], paper: &mut 
     while at < s.len() {
         let next = read_at(s, at);
         match next {
-            Field::Whole { tag, start, end } => {
-                let done = answer_to(state, &mut table[..], &mut out[..], tag, &s[start..end]);
+            Field::Whole { tag, start: _, end } => {
+                let done = answer_to(state, &mut table[..], &mut out[..], tag, value_at(s, at));
                 filled = put_answer(&mut paper[..], filled, ordinal, tag, done, &out[..]);
                 state = done.state;
                 at = end;

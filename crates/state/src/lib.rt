@@ -1,4 +1,4 @@
-// What a facility holds. Whatever may be missing has a mark beside it; where it is missing its bytes are zeros, so that nothing stays behind.
+// What a facility holds. Whatever may be missing has a mark beside it; what a command removes it overwrites with zeros, so that nothing stays behind.
 pub mod interchanges;
 pub mod places;
 

@@ -24,15 +24,6 @@ abbrev μ-loop : tie.MeasureT-loop
 loop-holds : tie.Need-loop-holds Inv-loop μ-loop
 loop-holds c = (refl, refl, refl, omega arith, refl)
 
-sub-answer-to : tie.Need-sub-answer-to Inv-loop μ-loop
-sub-answer-to c = within _ _ _ _ _ (sym (c .before .before .before .before .before .read-at .ensures) ∙ c .before .before .before .next .given .1) .1
-
-part-answer-to-start : tie.Need-part-answer-to-start Inv-loop μ-loop
-part-answer-to-start c = within _ _ _ _ _ (sym (c .before .before .before .before .before .read-at .ensures) ∙ c .before .before .before .next .given .1) .1
-
-part-answer-to-end : tie.Need-part-answer-to-end Inv-loop μ-loop
-part-answer-to-end c = within _ _ _ _ _ (sym (c .before .before .before .before .before .read-at .ensures) ∙ c .before .before .before .next .given .1) .2
-
 add-ordinal : tie.Need-add-ordinal Inv-loop μ-loop
 add-ordinal c = let w = within _ _ _ _ _ (sym (c .before .before .before .before .before .before .before .before .before .before .before .before .before .before .before .before .before .read-at .ensures) ∙ c .before .before .before .before .before .before .before .before .before .before .before .before .before .before .before .next .given .1) in omega (arith, w .0, w .1, w .2, c .before .before .before .before .before .before .before .before .before .before .before .before .before .before .before .before .before .before .before .loop .inv .3)
 
@@ -47,7 +38,7 @@ loop-again c =
       c .before .before .before .before .before .before .before .before .before .before .answer-to .kept .1 .1 .0 ∙ c .before .before .before .before .before .before .before .before .before .before .before .before .before .before .before .before .before .before .before .loop .inv .1,
       c .before .before .before .put-answer .kept .0 ∙ c .before .before .before .before .before .before .before .before .before .before .before .before .before .before .before .before .before .before .before .loop .inv .2,
       omega (arith, w .0, w .1, c .before .before .before .before .before .before .before .before .before .before .before .before .before .before .before .before .before .before .before .loop .inv .3),
-      turned _ _ _ _ _ _ _ _ _ e (c .before .before .before .before .before .before .before .before .before .before .before .before .before .before .before .before .before .before .loop-test .taken) _ _ _ (c .before .before .before .before .before .before .before .before .before .before .answer-to .ensures) _ (c .before .before .before .put-answer .ensures) ∙ c .before .before .before .before .before .before .before .before .before .before .before .before .before .before .before .before .before .before .before .loop .inv .4,
+      turned _ _ _ _ _ _ _ _ _ e (c .before .before .before .before .before .before .before .before .before .before .before .before .before .before .before .before .before .before .loop-test .taken) _ (c .before .before .before .before .before .before .before .before .before .before .before .value-at .ensures) _ _ _ (c .before .before .before .before .before .before .before .before .before .before .answer-to .ensures) _ (c .before .before .before .put-answer .ensures) ∙ c .before .before .before .before .before .before .before .before .before .before .before .before .before .before .before .before .before .before .before .loop .inv .4,
     )
 
 same-length : tie.Need-same-length Inv-loop μ-loop
@@ -100,9 +91,7 @@ run-spec =
     loop-holds
     (λ c κs. search needs)
     (λ c. search needs)
-    sub-answer-to
-    part-answer-to-start
-    part-answer-to-end
+    (λ c κs. search needs)
     (λ c κs. search needs)
     (λ c κs. search needs)
     add-ordinal
