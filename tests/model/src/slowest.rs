@@ -44,16 +44,29 @@ fn time_of(program: &Program, stream: &[u8]) -> Result<(Duration, Vec<u8>)> {
     Ok((start.elapsed(), printed))
 }
 
-/// Times both as children on the slowest stream; true where they print the same, and the program takes at most `MOST` times the model's time.
+/// A machine has other things to do now and then: so many tries, of which one must be within `MOST`.
+const TRIES: usize = 3;
+
+/// True where both print the same on the slowest stream, and the program takes at most `MOST` times the model's time.
 pub fn time(program: Program) -> Result<bool> {
+    for _ in 0..TRIES {
+        if timed(&program)? {
+            return Ok(true);
+        }
+    }
+    Ok(false)
+}
+
+/// Times both as children on the slowest stream, once.
+fn timed(program: &Program) -> Result<bool> {
     let own = std::env::current_exe()?.to_string_lossy().into_owned();
     let model = Program { path: own, args: vec!["run".to_string()] };
     let slowest = stream();
     let (mut models_time, models_lines) = time_of(&model, &slowest)?;
-    let (mut programs_time, programs_lines) = time_of(&program, &slowest)?;
+    let (mut programs_time, programs_lines) = time_of(program, &slowest)?;
     for _ in 1..RUNS {
         models_time = models_time.min(time_of(&model, &slowest)?.0);
-        programs_time = programs_time.min(time_of(&program, &slowest)?.0);
+        programs_time = programs_time.min(time_of(program, &slowest)?.0);
     }
     let (models, programs) = (models_time.as_secs_f64(), programs_time.as_secs_f64());
     let same = models_lines == programs_lines;
