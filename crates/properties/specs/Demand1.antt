@@ -4,12 +4,12 @@
 use mathlib.Core.Path.{_≡_, refl, sym, ap, _∙_, subst}
 use mathlib.Core.Bool.{Bool, true, false, cond, true≢false, false≢true}
 use mathlib.Core.List.{List, [], _∷_, _++_, map}
-use Prim.Native.Nat.{ℕ, zero, suc, _+_, _-_, _≤_, _<_}
+use Prim.Native.Nat.{ℕ, _+_, _≤_, _<_}
 use native.Mathlib.Omega.{arith}
 use lib.Dec.{eqb, leb, ltb}
 use lib.ListN.{length, drop, length-append, length-drop}
 use lib.Seq.{drop-at}
-use borrow.Author.Tests.{eqb-true, eqb-false, eq-eqb, ne-eqb, leb-true, leb-false, ltb-false}
+use borrow.Author.Tests.{eqb-true, eq-eqb, ne-eqb, leb-true, ltb-false}
 use Rattle.cipher.specs.declared.modes.Mode.{Mode}
 use Rattle.cipher.specs.declared.modes.Mode.the-variants.{Ecbe, Ecbd, Cbce, Cbcd, Cfbe, Cfbd}
 use Rattle.cipher.specs.Cipher.{modeText}
@@ -18,7 +18,7 @@ use Rattle.ground.specs.Search.{byTest}
 use Rattle.state.specs.State.{Bytes}
 use Rattle.rules.specs.declared.Answer.the-variants.{Done, Refused}
 use Rattle.rules.specs.Commands.{UserCommand, RAS, LAU, CPW, GDK, LDK, GIV, LIV, EIV, RDK, mode, DAUT, Command, by, EIK, IPW, RPW, logout}
-use Rattle.rules.specs.Commands.{Test, test, firstOf, World, Own, Effect, refused, Told, told, plain, numberOf, Result, result, badBlocks, modeRefusals, refusals, effect, rule, tests, step, stepBy, shutFor, own, carry, settled}
+use Rattle.rules.specs.Commands.{Test, test, firstOf, World, Own, refused, told, plain, numberOf, Result, result, badBlocks, modeRefusals, refusals, effect, rule, tests, step, stepBy, shutFor, own, carry, settled}
 use Rattle.rules.proofs.Laws.{good-blocks}
 
 -- ---- a list of tests
