@@ -1,14 +1,15 @@
 -- Demand 1, for every command at once: the reply is the lowest number of the command's own list whose condition holds, and 0 exactly where none holds;
--- a refused command leaves state, table and output as they were; done, the six modes write exactly the first n bytes, and no other command writes any.
+-- a refusal returns its number and no bytes, and leaves state, table and output as they were; done, the six modes write no byte beyond the first n
+-- (what those are: `Texts.wrote`), and no other command writes any.
 use mathlib.Core.Path.{_≡_, refl, sym, ap, _∙_, subst}
 use mathlib.Core.Bool.{Bool, true, false, cond, true≢false, false≢true}
 use mathlib.Core.List.{List, [], _∷_, _++_, map}
-use Prim.Native.Nat.{ℕ, zero, suc, _+_, _-_, _≤_, _<_}
+use Prim.Native.Nat.{ℕ, _+_, _≤_, _<_}
 use native.Mathlib.Omega.{arith}
 use lib.Dec.{eqb, leb, ltb}
 use lib.ListN.{length, drop, length-append, length-drop}
 use lib.Seq.{drop-at}
-use borrow.Author.Tests.{eqb-true, eqb-false, eq-eqb, ne-eqb, leb-true, leb-false, ltb-false}
+use borrow.Author.Tests.{eqb-true, eq-eqb, ne-eqb, leb-true, ltb-false}
 use Rattle.cipher.specs.declared.modes.Mode.{Mode}
 use Rattle.cipher.specs.declared.modes.Mode.the-variants.{Ecbe, Ecbd, Cbce, Cbcd, Cfbe, Cfbd}
 use Rattle.cipher.specs.Cipher.{modeText}
@@ -17,7 +18,7 @@ use Rattle.ground.specs.Search.{byTest}
 use Rattle.state.specs.State.{Bytes}
 use Rattle.rules.specs.declared.Answer.the-variants.{Done, Refused}
 use Rattle.rules.specs.Commands.{UserCommand, RAS, LAU, CPW, GDK, LDK, GIV, LIV, EIV, RDK, mode, DAUT, Command, by, EIK, IPW, RPW, logout}
-use Rattle.rules.specs.Commands.{Test, test, firstOf, World, Own, Effect, refused, Told, told, plain, numberOf, Result, result, badBlocks, modeRefusals, refusals, effect, rule, tests, step, stepBy, shutFor, own, carry, settled}
+use Rattle.rules.specs.Commands.{Test, test, firstOf, World, Own, refused, told, plain, numberOf, Result, result, badBlocks, modeRefusals, refusals, effect, rule, tests, step, stepBy, shutFor, own, carry, settled}
 use Rattle.rules.proofs.Laws.{good-blocks}
 
 -- ---- a list of tests
@@ -108,7 +109,8 @@ written (logout u) = 0
 -- the outcome r of a command with the tests l, which is to write n bytes, from the world w and the output out
 pub record Demand1 (l : List Test) (n : ℕ) (w : World) (out : Bytes) (r : Result) : Type 0 where
   pub lowest : Lowest l (numberOf (r .answered .answer))
-  pub unaltered : (numberOf (r .answered .answer) ≡ 0 → ⊥) → (r .world ≡ w) × (r .answered .output ≡ out)
+  -- refused: its number, no bytes, and the output and the world as they were
+  pub unaltered : (numberOf (r .answered .answer) ≡ 0 → ⊥) → r ≡ result (plain (Refused (numberOf (r .answered .answer))) out) w
   pub beyond : drop n (r .answered .output) ≡ drop n out
   pub size : length (r .answered .output) ≡ length out
 
@@ -170,7 +172,7 @@ module _ (l : List Test) (k : ℕ) (w : World) (out : Bytes) (low : Lowest l (fi
   when-done r z a o = record { lowest = subst (λ (n : ℕ). Lowest l n) (z ∙ sym a) low; unaltered = λ q. absurd (q a); beyond = o .0; size = o .1 }
 
   when-refused : Demand1 l k w out (result (plain (Refused (firstOf l)) out) w)
-  when-refused = record { lowest = low; unaltered = λ q. (refl, refl); beyond = refl; size = refl }
+  when-refused = record { lowest = low; unaltered = λ q. refl; beyond = refl; size = refl }
 
 by-officer : (l : List Test) (w w′ : World) (out : Bytes) → rising 1 l ≡ true → Demand1 l 0 w out (settled (firstOf l) w out w′)
 by-officer l w w′ out h =

@@ -3,11 +3,14 @@ pub mod Demand1
 pub mod Steps
 pub mod Demand2
 pub mod Moved
+pub mod Calls
 pub mod Texts
 pub mod Single
 pub mod Tables
 pub mod Passwords
 pub mod Reencrypted
 pub mod Joined
+pub mod Still
+pub mod SameReply
 pub mod TwoPlaces
 pub mod Performed

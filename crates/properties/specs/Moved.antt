@@ -1,4 +1,4 @@
--- Demand 2: a block moved by RDK then loads as before.
+-- Demand 2: a block moved by RDK then loads as before: it is the user who moved it who loads it, by the function that he moved it by.
 use mathlib.Core.Path.{_≡_, refl, sym, ap, ap₂, _∙_}
 use mathlib.Core.Bool.{Bool, true, false, not}
 use mathlib.Core.Option.{Option, some}
@@ -28,7 +28,7 @@ module _ (F : World) (u q p f : ℕ) (b out : Bytes) (done : Accepted F u (RDK q
   unfolding moved key effect
   moved-is = ap (λ r. r .answered .block) (done-step F u (RDK q p f b) out first)
 
-  -- wherever u is active and the interchange's current key is F's, the moved block loads that key
+  -- wherever u is active and the interchange's current key is F's, the moved block loads that key: for the same user u, naming the same q, by the same function f
   module _ (G : World) (h : Holdings) (out′ : Bytes) (active : find u (G .facility .places) ≡ some h)
       (current : keyAt p (G .facility .«current_keys») ≡ keyAt p (F .facility .«current_keys»)) where
     verdict : listOf G u (LDK q p f moved) out′ ≡ 0

@@ -3,11 +3,11 @@ use mathlib.Core.Path.{_≡_, refl, sym, ap, ap₂, _∙_, subst}
 use mathlib.Core.Bool.{Bool, true, false, cond, not, true≢false, false≢true}
 use mathlib.Core.Option.{Option, none, some}
 use mathlib.Core.List.{List, [], _∷_, _++_, append-assoc}
-use Prim.Native.Nat.{ℕ, zero, suc, _*_, _/_, _≤_, _<_}
+use Prim.Native.Nat.{ℕ, zero, suc, _+_, _*_, _/_, _≤_, _<_}
 use native.Mathlib.Omega.{arith}
 use lib.Dec.{eqb, lit<}
 use lib.ListN.{length, getD, set, take, drop, length-append, length-drop}
-use lib.Seq.{take-at, drop-at, length-take-le}
+use lib.Seq.{take-at, drop-at, drop-drop, length-take-le}
 use borrow.Author.Tests.{eqb-true}
 use Rattle.ground.specs.Search.{byTest}
 use Rattle.ground.specs.Lists.{Below, below-take, below-drop}
@@ -99,7 +99,27 @@ module _ (a k : Bytes) where
   unfolding moved
   moved-size t = size-in (length t / 12) t (omega arith)
 
-  -- everyone keeps his entry, and who has none gets none
+  -- the table's entries one by one: the i-th is moved
+  after-first : (i : ℕ) (l : Bytes) → drop (suc i * 12) l ≡ drop (i * 12) (drop 12 l)
+  after-first i l =
+      let e : suc i * 12 ≡ 12 + i * 12 = omega arith in
+      ap (λ (n : ℕ). drop n l) e ∙ sym (drop-drop (i * 12) 12 l)
+
+  each-in : (i n : ℕ) (t : Bytes) → i < n → n * 12 ≤ length t → take 12 (drop (i * 12) (movedIn n a k t)) ≡ movedEntry a k (drop (i * 12) t)
+  unfolding movedIn
+  each-in i zero t h l = absurd (omega arith)
+  each-in zero (suc n) t h l = take-at (movedEntry a k t) (movedIn n a k (drop 12 t)) 12 (moved-twelve a k t (omega arith))
+  each-in (suc i) (suc n) t h l =
+      let r = movedIn n a k (drop 12 t) in
+      ap (take 12) (after-first i (movedEntry a k t ++ r) ∙ ap (drop (i * 12)) (drop-at (movedEntry a k t) r 12 (moved-twelve a k t (omega arith))))
+      ∙ each-in i n (drop 12 t) (omega arith) (shorter n t l)
+      ∙ ap (movedEntry a k) (sym (after-first i t))
+
+  pub moved-each : (i : ℕ) (t : Bytes) → i < length t / 12 → take 12 (drop (i * 12) (moved a k t)) ≡ movedEntry a k (drop (i * 12) t)
+  unfolding moved
+  moved-each i t h = each-in i (length t / 12) t h (omega arith)
+
+  -- the entry that counts, which is an identifier's first: everyone keeps his, and who has none gets none
   pub moved-entry : (u : ℕ) (t : Bytes) → entryOf u (moved a k t) ≡ resealed u (entryOf u t)
   unfolding entryOf moved
   moved-entry u t = ap (λ (n : ℕ). entryIn (n / 12) u (movedIn (length t / 12) a k t)) (moved-size t) ∙ moved-in u (length t / 12) t (omega arith)
@@ -179,7 +199,16 @@ module _ (w : World) (out : Bytes) (done : Performed w RPW out) where
       both true false b h = absurd (true≢false h)
       both false a b h = absurd (true≢false h)
 
-  -- every user's entry is moved, an entry that is no user's stays, and nobody gets or loses one
+  -- every entry of the table is moved (one that is no user's stays: `movedEntry`), and the table keeps its length
+  pub rpw-each : (i : ℕ) → i < length (w .table) / 12 → take 12 (drop (i * 12) (after .table)) ≡ movedEntry (old1 w) (key1 w) (drop (i * 12) (w .table))
+  unfolding effected
+  rpw-each i h = ap (λ (x : World). take 12 (drop (i * 12) (x .table))) after-is ∙ moved-each (old1 w) (key1 w) i (w .table) h
+
+  pub rpw-size : length (after .table) ≡ length (w .table)
+  unfolding effected
+  rpw-size = ap (λ (x : World). length (x .table)) after-is ∙ moved-size (old1 w) (key1 w) (w .table)
+
+  -- so of each identifier's first entry, the one that counts: a user's is moved, one that is no user's stays, and nobody gets or loses one
   pub rpw-entry : (u : ℕ) → entryOf u (after .table) ≡ resealed (old1 w) (key1 w) u (entryOf u (w .table))
   unfolding effected
   rpw-entry u = ap (λ (x : World). entryOf u (x .table)) after-is ∙ moved-entry (old1 w) (key1 w) u (w .table)

@@ -1,12 +1,12 @@
--- No command gives one identifier two places.
+-- No command gives one identifier two places; nor, where a state is handed in that has it so, one more.
 use mathlib.Core.Path.{_≡_, refl, sym, ap, _∙_, subst}
 use mathlib.Core.Bool.{Bool, true, false, cond, false≢true}
 use mathlib.Core.Option.{Option, none, some}
 use mathlib.Core.List.{List, [], _∷_}
-use Prim.Native.Nat.{ℕ, zero, suc, _+_, _≤_}
+use Prim.Native.Nat.{ℕ, suc, _≤_}
 use native.Mathlib.Omega.{arith}
 use lib.Dec.{eqb}
-use borrow.Author.Tests.{eqb-true, eqb-false, ne-eqb}
+use borrow.Author.Tests.{eqb-true}
 use Rattle.ground.specs.Search.{byTest}
 use Rattle.state.specs.declared.Holdings.{Holdings}
 use Rattle.state.specs.declared.Place.{Place}
@@ -90,47 +90,60 @@ nowhere u (p ∷ ps) e =
     never : some (p .holdings) ≡ none → _≡_ {A = ℕ} 0 1
     never q = cc
 
-given : (o : Option Holdings) (u : ℕ) (h : Holdings) (ps : List Place) → find u ps ≡ o → Single ps → Single (giveTo o u h ps)
-given none u h ps e s v =
-    byTest (eqb v u)
-    (λ t.
-    let z : count v ps ≡ 0 = ap (λ (n : ℕ). count n ps) (eqb-true v u t) ∙ nowhere u ps e in
-    let a : count v (admit (seat u h) ps) ≤ suc (count v ps) = subst (λ (b : Bool). count v (admit (seat u h) ps) ≤ cond b (suc (count v ps)) (count v ps)) t (count-admit v (seat u h) ps) in
-    omega arith)
-    (λ f.
-    let a : count v (admit (seat u h) ps) ≤ count v ps = subst (λ (b : Bool). count v (admit (seat u h) ps) ≤ cond b (suc (count v ps)) (count v ps)) f (count-admit v (seat u h) ps) in
-    let b = s v in
-    omega arith)
-given (some g) u h ps e s v = subst (λ (n : ℕ). n ≤ 1) (sym (count-put v u h ps)) (s v)
-
 -- ---- every command
 
-carried : (u : ℕ) (e : Effect) (w : World) → Single (w .facility .places) → Single (carry u e w .facility .places)
-unfolding give leave
-carried u (refused n) w s = s
-carried u (gives n b) w s = s
-carried u (keeps h) w s = given (find u (w .facility .places)) u h (w .facility .places) refl s
-carried u leaves w s = λ v. let a = s v in omega (arith, count-leave v u (w .facility .places))
-carried u (enters b p) w s = s
-carried u (writes b h) w s = given (find u (w .facility .places)) u h (w .facility .places) refl s
+-- an identifier v, and a number of places n, one at least
+module _ (v n : ℕ) (one : 1 ≤ n) where
+  -- v holds at most n places
+  abbrev AtMost : List Place → Type 0
+  AtMost ps = count v ps ≤ n
 
--- an officer's command, done or refused
-officers : (n : ℕ) (w w′ : World) (out : Bytes) → Single (w .facility .places) → w′ .facility .places ≡ w .facility .places → Single (settled n w out w′ .world .facility .places)
-officers n w w′ out s e =
-    byTest (eqb n 0)
-    (λ t. subst (λ (b : Bool). Single (cond b (result (plain Done out) w′) (result (plain (Refused n) out) w) .world .facility .places)) (sym t) (subst Single (sym e) s))
-    (λ f. subst (λ (b : Bool). Single (cond b (result (plain Done out) w′) (result (plain (Refused n) out) w) .world .facility .places)) (sym f) s)
+  given : (o : Option Holdings) (u : ℕ) (h : Holdings) (ps : List Place) → find u ps ≡ o → AtMost ps → AtMost (giveTo o u h ps)
+  given none u h ps e s =
+      byTest (eqb v u)
+      (λ t.
+      let z : count v ps ≡ 0 = ap (λ (i : ℕ). count i ps) (eqb-true v u t) ∙ nowhere u ps e in
+      let a : count v (admit (seat u h) ps) ≤ suc (count v ps) = subst (λ (b : Bool). count v (admit (seat u h) ps) ≤ cond b (suc (count v ps)) (count v ps)) t (count-admit v (seat u h) ps) in
+      omega arith)
+      (λ f.
+      let a : count v (admit (seat u h) ps) ≤ count v ps = subst (λ (b : Bool). count v (admit (seat u h) ps) ≤ cond b (suc (count v ps)) (count v ps)) f (count-admit v (seat u h) ps) in
+      omega arith)
+  given (some g) u h ps e s = subst (λ (k : ℕ). k ≤ n) (sym (count-put v u h ps)) s
+
+  carried : (u : ℕ) (e : Effect) (w : World) → AtMost (w .facility .places) → AtMost (carry u e w .facility .places)
+  unfolding give leave
+  carried u (refused k) w s = s
+  carried u (gives k b) w s = s
+  carried u (keeps h) w s = given (find u (w .facility .places)) u h (w .facility .places) refl s
+  carried u leaves w s = omega (arith, count-leave v u (w .facility .places))
+  carried u (enters b p) w s = s
+  carried u (writes b h) w s = given (find u (w .facility .places)) u h (w .facility .places) refl s
+
+  -- an officer's command, done or refused
+  officers : (k : ℕ) (w w′ : World) (out : Bytes) → AtMost (w .facility .places) → w′ .facility .places ≡ w .facility .places → AtMost (settled k w out w′ .world .facility .places)
+  officers k w w′ out s e =
+      byTest (eqb k 0)
+      (λ t. subst (λ (b : Bool). AtMost (cond b (result (plain Done out) w′) (result (plain (Refused k) out) w) .world .facility .places)) (sym t) (subst AtMost (sym e) s))
+      (λ f. subst (λ (b : Bool). AtMost (cond b (result (plain Done out) w′) (result (plain (Refused k) out) w) .world .facility .places)) (sym f) s)
+
+  -- who holds at most n places before a command holds at most n after it, whatever places others hold
+  pub at-most : (w : World) (c : Command) (out : Bytes) → count v (w .facility .places) ≤ n → count v (step w c out .world .facility .places) ≤ n
+  unfolding step keyed rekeyed
+  at-most w (by u c) out s = carried u (ruleIn w u c out) w s
+  at-most w (EIK i k) out s = officers (firstOf (tests (EIK i k) w out)) w (over (keyed i k (w .facility)) (w .table)) out s refl
+  at-most w (IPW u p) out s =
+      officers (firstOf (tests (IPW u p) w out)) w (over (w .facility) (enrolled u (sealed (keyAt 1 (w .facility .«current_keys») .key .0) u p) (w .table))) out s refl
+  at-most w RPW out s =
+      officers (firstOf (tests RPW w out)) w
+      (over (undue (w .facility)) (moved (keyAt 1 (w .facility .«old_keys») .key .0) (keyAt 1 (w .facility .«current_keys») .key .0) (w .table))) out s refl
+  at-most w (logout u) out s = carried u (ruleIn w u LAU out) w s
+
+-- one place at most stays one at most
+pub single-each : (w : World) (c : Command) (out : Bytes) (v : ℕ) → count v (w .facility .places) ≤ 1 → count v (step w c out .world .facility .places) ≤ 1
+single-each w c out v s = at-most v 1 (omega arith) w c out s
 
 pub single : (w : World) (c : Command) (out : Bytes) → Single (w .facility .places) → Single (step w c out .world .facility .places)
-unfolding step keyed rekeyed
-single w (by u c) out s = carried u (ruleIn w u c out) w s
-single w (EIK i k) out s = officers (firstOf (tests (EIK i k) w out)) w (over (keyed i k (w .facility)) (w .table)) out s refl
-single w (IPW u p) out s =
-    officers (firstOf (tests (IPW u p) w out)) w (over (w .facility) (enrolled u (sealed (keyAt 1 (w .facility .«current_keys») .key .0) u p) (w .table))) out s refl
-single w RPW out s =
-    officers (firstOf (tests RPW w out)) w
-    (over (undue (w .facility)) (moved (keyAt 1 (w .facility .«old_keys») .key .0) (keyAt 1 (w .facility .«current_keys») .key .0) (w .table))) out s refl
-single w (logout u) out s = carried u (ruleIn w u LAU out) w s
+single w c out s v = single-each w c out v (s v)
 
 -- a fresh facility has no users
 pub single-fresh : Single (fresh .places)
