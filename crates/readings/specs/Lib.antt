@@ -1,1 +1,3 @@
 pub mod Spelled
+pub mod Cut
+pub mod Once
