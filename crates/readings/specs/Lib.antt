@@ -1,3 +1,4 @@
 pub mod Spelled
 pub mod Cut
 pub mod Once
+pub mod Shown

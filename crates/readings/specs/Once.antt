@@ -1,5 +1,5 @@
 -- Any two outcomes that the contracts of `session` allow are identical.
--- (The contracts of `stream` and `printout` are equations for the result itself, `decoded`, `fieldAt` or `entered …`: two results of one are equal to one definition.)
+-- (The contracts of `stream` are equations for the result itself: any two results are equal to one definition, and so to each other.)
 use mathlib.Core.Path.{_≡_, sym, ap, _∙_}
 use Prim.Native.Nat.{ℕ}
 use Rattle.printout.specs.Page.{Page, page, entered}
@@ -15,14 +15,14 @@ pub determined-answer-to : (w : World) (t : ℕ) (v out : Bytes) (r r′ : Outco
     → left r a o ≡ answerTo w t v out → left r′ a′ o′ ≡ answerTo w t v out → (r ≡ r′) × (a ≡ a′) × (o ≡ o′)
 determined-answer-to w t v out r r′ a a′ o o′ p p′ = same r r′ a a′ o o′ (p ∙ sym p′)
 
--- a page, and how far it is filled
-same-page : (s s′ : Bytes) (n n′ : ℕ) → page s n ≡ page s′ n′ → (s ≡ s′) × (n ≡ n′)
-same-page s s′ n n′ e = (ap (λ (p : Page). p .letters) e, ap (λ (p : Page). p .filled) e)
+-- a page and how far it is filled, for every function of `printout` that writes on one
+pub determined-page : (p : Page) (s s′ : Bytes) (n n′ : ℕ) → page s n ≡ p → page s′ n′ ≡ p → (s ≡ s′) × (n ≡ n′)
+determined-page p s s′ n n′ e e′ = (ap (λ (q : Page). q .letters) (e ∙ sym e′), ap (λ (q : Page). q .filled) (e ∙ sym e′))
 
--- one line
+-- so for an answer's line
 pub determined-put-answer : (ordinal : ℕ) (a : Answered) (p : Page) (s s′ : Bytes) (n n′ : ℕ)
     → page s n ≡ entered (lineOf ordinal a) p → page s′ n′ ≡ entered (lineOf ordinal a) p → (s ≡ s′) × (n ≡ n′)
-determined-put-answer ordinal a p s s′ n n′ e e′ = same-page s s′ n n′ (e ∙ sym e′)
+determined-put-answer ordinal a p = determined-page (entered (lineOf ordinal a) p)
 
 -- a whole run: state, table, output and page
 pub determined-run : (s : Bytes) (w : World) (out : Bytes) (p : Page) (r r′ : Printed) (t t′ o o′ b b′ : Bytes)
