@@ -2,3 +2,4 @@ pub mod Spelled
 pub mod Cut
 pub mod Once
 pub mod Shown
+pub mod Room
