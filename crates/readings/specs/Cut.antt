@@ -93,8 +93,11 @@ not-17 w t v out = ne-eqb (numberOf (answerTo w t v out .answered .answer)) 17 (
 
 -- ---- what is cut
 
--- where a header or a value runs past the end
-pub cut-exactly : (s : Bytes) (at tag : ℕ) → fieldAt s at ≡ Cut tag ↔ ((at < length s) × (length s < at + 3 + lengthAt s at) × (tag ≡ getD s at 0))
+-- something stands there, of this tag, and its header or its value runs past the end
+abbrev pub PastEnd : Bytes → ℕ → ℕ → Type 0
+PastEnd s at tag = (at < length s) × (length s < at + 3 + lengthAt s at) × (tag ≡ getD s at 0)
+
+pub cut-exactly : (s : Bytes) (at tag : ℕ) → fieldAt s at ≡ Cut tag ↔ PastEnd s at tag
 unfolding fieldAt
 cut-exactly s at tag =
     (is (leb (length s) at) (ltb (length s - at) 3) (ltb (length s - at - 3) (lengthAt s at)) refl refl refl,
@@ -104,7 +107,7 @@ cut-exactly s at tag =
     there b₁ b₂ b₃ = cond b₁ End (cond b₂ (Cut (getD s at 0)) (cond b₃ (Cut (getD s at 0)) (Whole (getD s at 0) (at + 3) (at + 3 + lengthAt s at))))
 
     is : (b₁ b₂ b₃ : Bool) → leb (length s) at ≡ b₁ → ltb (length s - at) 3 ≡ b₂ → ltb (length s - at - 3) (lengthAt s at) ≡ b₃
-        → there b₁ b₂ b₃ ≡ Cut tag → (at < length s) × (length s < at + 3 + lengthAt s at) × (tag ≡ getD s at 0)
+        → there b₁ b₂ b₃ ≡ Cut tag → PastEnd s at tag
     is true b₂ b₃ p q r h = absurd (let z : _≡_ {A = ℕ} 0 1 = cc in omega arith)
     is false true b₃ p q r h = let e : tag ≡ getD s at 0 = cc in (leb-false (length s) at p, omega (arith, ltb-true (length s - at) 3 q, leb-false (length s) at p), e)
     is false false true p q r h =
@@ -113,7 +116,7 @@ cut-exactly s at tag =
     is false false false p q r h = absurd (let z : _≡_ {A = ℕ} 0 1 = cc in omega arith)
 
     has : (b₁ b₂ b₃ : Bool) → leb (length s) at ≡ b₁ → ltb (length s - at) 3 ≡ b₂ → ltb (length s - at - 3) (lengthAt s at) ≡ b₃
-        → (at < length s) × (length s < at + 3 + lengthAt s at) × (tag ≡ getD s at 0) → there b₁ b₂ b₃ ≡ Cut tag
+        → PastEnd s at tag → there b₁ b₂ b₃ ≡ Cut tag
     has true b₂ b₃ p q r h = absurd (omega (arith, leb-true (length s) at p, h .0))
     has false true b₃ p q r h = ap Cut (sym (h .2))
     has false false true p q r h = ap Cut (sym (h .2))
@@ -143,6 +146,14 @@ abbrev pub has17 : List Answered → Bool
 has17 [] = false
 has17 (a ∷ rest) = cond (eqb (numberOf (a .told .answer)) 17) true (has17 rest)
 
+-- behind an answer 17 comes no other
+abbrev pub Last : List Answered → Type 0
+Last answers = (before : List Answered) (a : Answered) (rest : List Answered) → answers ≡ before ++ a ∷ rest → numberOf (a .told .answer) ≡ 17 → rest ≡ []
+
+none-more : (before : List Answered) (a : Answered) (rest : List Answered) → [] ≡ before ++ a ∷ rest → ⊥
+none-more [] a rest e = nil≢cons e
+none-more (x ∷ before) a rest e = nil≢cons e
+
 module _ (s : Bytes) where
   found-at : (n : ℕ) → ((w : World) (out : Bytes) (at : ℕ) → has17 (carryOn n s w out at .answers) ≡ true → RunsOut s at)
       → (w : World) (out : Bytes) (at : ℕ) (f : Field) → fieldAt s at ≡ f → has17 (goOn (carryOn n s) w out s f .answers) ≡ true → RunsOut s at
@@ -163,17 +174,10 @@ module _ (s : Bytes) where
       let b = within s at t start end e in
       rw (turn s w out at (omega (arith, b .0, b .1, b .2)), e, not-17 w t (part start end s) out) (met _ _ tag r c)
 
+  -- 17 is answered exactly if reading comes to what is cut
   pub seventeen-exactly : (w : World) (out : Bytes) (at : ℕ) → has17 (ranFrom s w out at .answers) ≡ true ↔ RunsOut s at
   unfolding ranFrom
   seventeen-exactly w out at = (found (length s) w out at, λ r. met w out (r .tag) (r .reached) (r .cut))
-
-  -- behind it comes no other answer
-  abbrev pub Last : List Answered → Type 0
-  Last answers = (before : List Answered) (a : Answered) (rest : List Answered) → answers ≡ before ++ a ∷ rest → numberOf (a .told .answer) ≡ 17 → rest ≡ []
-
-  none-more : (before : List Answered) (a : Answered) (rest : List Answered) → [] ≡ before ++ a ∷ rest → ⊥
-  none-more [] a rest e = nil≢cons e
-  none-more (x ∷ before) a rest e = nil≢cons e
 
   last-at : (n : ℕ) → ((w : World) (out : Bytes) (at : ℕ) → Last (carryOn n s w out at .answers))
       → (w : World) (out : Bytes) (f : Field) → Last (goOn (carryOn n s) w out s f .answers)
@@ -189,6 +193,7 @@ module _ (s : Bytes) where
   last zero w out at before a rest e h = absurd (none-more before a rest e)
   last (suc n) w out at before a rest e h = last-at n (last n) w out (fieldAt s at) before a rest e h
 
+  -- it is the last
   pub seventeen-last : (w : World) (out : Bytes) (at : ℕ) → Last (ranFrom s w out at .answers)
   unfolding ranFrom
   seventeen-last w out at = last (length s) w out at
