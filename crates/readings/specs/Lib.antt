@@ -1,0 +1,5 @@
+pub mod Spelled
+pub mod Cut
+pub mod Once
+pub mod Shown
+pub mod Room
