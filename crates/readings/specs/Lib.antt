@@ -3,3 +3,4 @@ pub mod Cut
 pub mod Once
 pub mod Shown
 pub mod Room
+pub mod InTurn
