@@ -1,3 +1,4 @@
 pub mod Page
 pub mod Digits
 pub mod Lines
+pub mod Text

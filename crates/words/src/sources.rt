@@ -1,0 +1,119 @@
+// Where bytes come from, and the bytes themselves put onto a page.
+ghost use mathlib.Core.Path.{_≡_};
+ghost use Prim.Native.Nat.{_+_, _*_, _<_};
+ghost use lib.ListN.{length};
+ghost use Rattle.printout.specs.Page.{page, entered};
+ghost use Rattle.words.specs.Values.{hexValue, unhex, part, rawFrom, meant, answerSource};
+
+use crate::Origin;
+use crate::Source;
+use crate::Word;
+use crate::split::word_at;
+use printout::page::put;
+use printout::page::put_all;
+
+// The part from start to end, as far as it is there.
+pub fn part_of(s: &[u8], start: usize, end: usize) -> &[u8]
+    ensures { λ r. ⌜ now r ≡ part start end (now (s .entry)) ⌝ }
+{
+    if s.len() < end {
+        if start <= s.len() { &s[start..] } else { &s[..0] }
+    } else if start <= end {
+        &s[start..end]
+    } else {
+        &s[..0]
+    }
+}
+
+fn hex_value(letter: u8) -> u8
+    ensures { λ r. ⌜ (r ≡ hexValue letter) × (r < 16) ⌝ }
+{
+    if letter < b'A' {
+        if b'0' <= letter { (letter - b'0') % 16 } else { 0 }
+    } else if letter < b'a' {
+        (letter - 55) % 16
+    } else {
+        (letter - 87) % 16
+    }
+}
+
+fn hex_byte(high: u8, low: u8) -> u8
+    ensures { λ r. ⌜ r ≡ 16 * hexValue high + hexValue low ⌝ }
+{
+    16 * hex_value(high) + hex_value(low)
+}
+
+// Two hex digits a byte.
+fn put_unhexed(paper: &mut [u8], at: usize, digits: &[u8]) -> usize
+    ensures { λ r. ⌜ page (now (paper .exit)) r ≡ entered (unhex (now (digits .entry))) (page (now (paper .entry)) at) ⌝ }
+{
+    let mut to = at;
+    let mut i: usize = 0;
+    while i + 1 < digits.len() {
+        to = put(&mut paper[..], to, hex_byte(digits[i], digits[i + 1]));
+        i += 2;
+    }
+    to
+}
+
+// The bytes of all plain words from there on.
+fn put_raw(paper: &mut [u8], at: usize, line: &[u8], start: usize) -> usize
+    ensures { λ r. ⌜ page (now (paper .exit)) r ≡ entered (rawFrom (length (now (line .entry))) (now (line .entry)) start) (page (now (paper .entry)) at) ⌝ }
+{
+    let mut to = at;
+    let mut from = start;
+    let mut turns = line.len();
+    while 0 < turns {
+        let next = word_at(line, from);
+        match next {
+            Word::PlainWord { start: begin, end } => {
+                to = put_unhexed(&mut paper[..], to, part_of(line, begin, end));
+                from = end;
+            }
+            Word::TextWord { start: _, end: _ } => return to,
+            Word::Broken { at: _, expected: _ } => return to,
+            Word::NoWord { at: _ } => return to,
+        }
+        turns -= 1;
+    }
+    to
+}
+
+// The bytes that a source stands for.
+pub fn put_meant(paper: &mut [u8], at: usize, source: Source, line: &[u8], kept: &[u8]) -> usize
+    ensures { λ r. ⌜ page (now (paper .exit)) r ≡ entered (meant source (now (line .entry)) (now (kept .entry))) (page (now (paper .entry)) at) ⌝ }
+{
+    let from = source.from;
+    let start = source.start;
+    let end = source.end;
+    match from {
+        Origin::HexDigits => put_unhexed(&mut paper[..], at, part_of(line, start, end)),
+        Origin::HexWords => put_raw(&mut paper[..], at, line, start),
+        Origin::Letters => put_all(&mut paper[..], at, part_of(line, start, end)),
+        Origin::Answer => put_all(&mut paper[..], at, part_of(kept, start, end)),
+    }
+}
+
+pub fn source(from: Origin, start: usize, end: usize) -> Source
+    ensures { λ r. ⌜ r ≡ record { from = from; start = start; end = end } ⌝ }
+{
+    Source { from, start, end }
+}
+
+// The bytes of answer n. `ends` says where each answer's bytes end among those kept, the first entry being 0; an answer that is not there has none.
+pub fn answer_source(kept: &[u8], ends: &[usize], n: usize) -> Source
+    ensures { λ r. ⌜ r ≡ answerSource (length (now (kept .entry))) (now (ends .entry)) n ⌝ }
+{
+    if n == 0 {
+        return source(Origin::Answer, 0, 0);
+    }
+    if ends.len() <= n {
+        return source(Origin::Answer, 0, 0);
+    }
+    let start = ends[n - 1];
+    let end = ends[n];
+    if kept.len() < end {
+        return source(Origin::Answer, 0, 0);
+    }
+    source(Origin::Answer, start, end)
+}
