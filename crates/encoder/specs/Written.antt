@@ -1,19 +1,17 @@
 -- The same by a command's form, with 0 for no argument: the argument fields, and how long they are.
-use mathlib.Core.Path.{_≡_, refl, sym, ap, ap₂, _∙_}
+use mathlib.Core.Path.{_≡_, sym, ap, _∙_}
 use mathlib.Core.Bool.{Bool, true, false, cond}
-use mathlib.Core.Option.{Option, none, some}
 use mathlib.Core.List.{List, [], _∷_, _++_}
-use Prim.Native.Nat.{ℕ, zero, suc, _+_, _≤_, _<_}
+use Prim.Native.Nat.{ℕ, suc, _+_, _≤_, _<_}
 use native.Mathlib.Numerals.{add-one}
 use native.Mathlib.Omega.{arith}
-use lib.Dec.{eqb, ltb}
-use lib.ListN.{length, getD, take, drop, length-append, drop-of-length-le}
+use lib.Dec.{eqb}
+use lib.ListN.{length, getD, drop, drop-of-length-le}
 use lib.Seq.{drop-cons}
-use Rattle.ground.specs.Rows.{digits}
 use Rattle.printout.specs.Page.{Page, entered, then}
 use Rattle.stream.specs.declared.Request.{Request}
 use Rattle.stream.specs.Fields.{Bytes, field}
-use Rattle.stream.specs.Grammar.{argument, spelled}
+use Rattle.stream.specs.Grammar.{argument}
 
 -- the field of the argument k
 unfoldable pub oneField : ℕ → Request → Bytes → Bytes
