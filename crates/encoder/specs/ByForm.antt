@@ -1,6 +1,6 @@
 -- A command's bytes by its form: the header with the size that was counted, and the argument fields.
 use mathlib.Core.Path.{_≡_, refl, sym, ap, ap₂, _∙_}
-use mathlib.Core.Bool.{Bool, true, false, cond, false≢true, true≢false}
+use mathlib.Core.Bool.{Bool, true, false, cond}
 use mathlib.Core.Option.{Option, none, some}
 use mathlib.Core.List.{List, [], _∷_, _++_}
 use Prim.Native.Nat.{ℕ, zero, suc, _+_, _≤_, _<_}
@@ -22,7 +22,7 @@ use Rattle.stream.specs.Commands.{argumentsOf, formOf}
 use Rattle.stream.specs.Grammar.{argument, spelled}
 use Rattle.stream.specs.GrammarLaws.{ascending, above, later, arguments-ordered}
 use Rattle.encoder.specs.Encoded.{encodedWith, encoded}
-use Rattle.encoder.specs.Written.{oneField, allFields, oneSize, allSizes, after}
+use Rattle.encoder.specs.Written.{oneField, allFields, oneSize, allSizes, formSize, after}
 
 -- ---- the argument fields, without those that are none
 
@@ -133,49 +133,34 @@ module _ (a : Request) (d : Bytes) (eight : (length (a .block) ≡ 8) × (length
     long-with : 65536 ≤ sizeBy (padded 5 ks) d → encodedWith a d (some ks) ≡ []
     long-with l = rw (le-ltb (length (spelled ks a d)) 65536 (omega (arith, value-length, too-long (padded 5 ks) d l)))
 
-  pub unknown : formOf (a .tag) .known ≡ false → encoded a d ≡ []
-  unfolding formOf encoded
-  unknown h = go (argumentsOf (a .tag)) refl
-    where
-      go : (o : Option (List ℕ)) → argumentsOf (a .tag) ≡ o → encodedWith a d (argumentsOf (a .tag)) ≡ []
-      go none e = rw e
-      go (some ks) e = absurd (true≢false (rw e at h))
-
-  pub long : formOf (a .tag) .known ≡ true → 65536 ≤ sizeBy (formOf (a .tag) .arguments) d → encoded a d ≡ []
-  unfolding formOf encoded
-  long h l = go (argumentsOf (a .tag)) refl
+  nothing : 65536 ≤ formSize (formOf (a .tag)) (length (take 65536 d)) → encoded a d ≡ []
+  unfolding formSize formOf encoded
+  nothing l = go (argumentsOf (a .tag)) refl
     where
       go : (o : Option (List ℕ)) → argumentsOf (a .tag) ≡ o → encodedWith a d (argumentsOf (a .tag)) ≡ []
       go none e = rw e
       go (some ks) e = rw e (long-with ks e (rw e at l))
 
-  pub short : formOf (a .tag) .known ≡ true → sizeBy (formOf (a .tag) .arguments) d < 65536 → encoded a d ≡ put (sizeBy (formOf (a .tag) .arguments) d) (formOf (a .tag) .arguments)
-  unfolding formOf encoded
-  short h l = go (argumentsOf (a .tag)) refl
+  whole : formSize (formOf (a .tag)) (length (take 65536 d)) < 65536 → encoded a d ≡ put (formSize (formOf (a .tag)) (length (take 65536 d))) (formOf (a .tag) .arguments)
+  unfolding formSize formOf encoded
+  whole l = go (argumentsOf (a .tag)) refl
     where
-      go : (o : Option (List ℕ)) → argumentsOf (a .tag) ≡ o → encodedWith a d (argumentsOf (a .tag)) ≡ put (sizeBy (formOf (a .tag) .arguments) d) (formOf (a .tag) .arguments)
-      go none e = absurd (false≢true (rw e at h))
+      go : (o : Option (List ℕ)) → argumentsOf (a .tag) ≡ o → encodedWith a d (argumentsOf (a .tag)) ≡ put (formSize (formOf (a .tag)) (length (take 65536 d))) (formOf (a .tag) .arguments)
+      go none e = let z : 65536 < 65536 = rw e at l in absurd (omega arith)
       go (some ks) e = rw e (short-with ks e (rw e at l))
 
--- ---- the same, as the code comes to it: its form f, the data x that it counts, its size n
+-- ---- the same, as the code comes to it: the form f, the data x that it counts, the size n
 
-module _ (a : Request) (d x : Bytes) (f : Form) (n : ℕ) (eight : (length (a .block) ≡ 8) × (length (a .second) ≡ 8)) (form : f ≡ formOf (a .tag)) (data-is : x ≡ take 65536 d) (size : n ≡ allSizes (f .arguments) (length x)) where
-  same-size : n ≡ sizeBy (formOf (a .tag) .arguments) d
-  same-size = size ∙ ap₂ (λ (g : Form) (y : Bytes). allSizes (g .arguments) (length y)) form data-is
+module _ (a : Request) (d x : Bytes) (f : Form) (n : ℕ) (eight : (length (a .block) ≡ 8) × (length (a .second) ≡ 8)) (form : f ≡ formOf (a .tag)) (data-is : x ≡ take 65536 d) (size : n ≡ formSize f (length x)) where
+  same-size : n ≡ formSize (formOf (a .tag)) (length (take 65536 d))
+  same-size = size ∙ ap₂ (λ (g : Form) (y : Bytes). formSize g (length y)) form data-is
 
-  same-known : (b : Bool) → f .known ≡ b → formOf (a .tag) .known ≡ b
-  same-known b h = ap (λ (g : Form). g .known) (sym form) ∙ h
-
-  pub put-unknown : (p : Page) → f .known ≡ false → p ≡ entered (encoded a d) p
+  pub put-nothing : (p : Page) → 65536 ≤ n → p ≡ entered (encoded a d) p
   unfolding entered
-  put-unknown p h = rw (unknown a d eight (same-known false h))
+  put-nothing p l = rw (nothing a d eight (omega (arith, same-size)))
 
-  pub put-long : (p : Page) → f .known ≡ true → 65536 ≤ n → p ≡ entered (encoded a d) p
-  unfolding entered
-  put-long p h l = rw (long a d eight (same-known true h) (omega (arith, same-size)))
-
-  pub put-short : (p q r : Page) → f .known ≡ true → n < 65536 → q ≡ entered (a .tag ∷ digits 256 2 n) p → r ≡ entered (allFields (f .arguments) a d) q → r ≡ entered (encoded a d) p
-  put-short p q r h l e e′ =
+  pub put-whole : (p q r : Page) → n < 65536 → q ≡ entered (a .tag ∷ digits 256 2 n) p → r ≡ entered (allFields (f .arguments) a d) q → r ≡ entered (encoded a d) p
+  put-whole p q r l e e′ =
       after (a .tag ∷ digits 256 2 n) (allFields (f .arguments) a d) p q r e e′
       ∙ ap₂ (λ (m : ℕ) (g : Form). entered ((a .tag ∷ digits 256 2 m) ++ allFields (g .arguments) a d) p) same-size form
-      ∙ ap (λ (y : Bytes). entered y p) (sym (short a d eight (same-known true h) (omega (arith, same-size))))
+      ∙ ap (λ (y : Bytes). entered y p) (sym (whole a d eight (omega (arith, same-size))))

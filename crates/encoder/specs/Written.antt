@@ -10,6 +10,7 @@ use lib.ListN.{length, getD, drop, drop-of-length-le}
 use lib.Seq.{drop-cons}
 use Rattle.printout.specs.Page.{Page, entered, then}
 use Rattle.stream.specs.declared.Request.{Request}
+use Rattle.stream.specs.declared.Form.{Form}
 use Rattle.stream.specs.Fields.{Bytes, field}
 use Rattle.stream.specs.Grammar.{argument}
 
@@ -36,6 +37,10 @@ oneSize k n =
 unfoldable pub allSizes : List ℕ → ℕ → ℕ
 allSizes [] n = 0
 allSizes (k ∷ ks) n = oneSize k n + allSizes ks n
+
+-- that of an unknown tag counts as too long
+unfoldable pub formSize : Form → ℕ → ℕ
+formSize f n = cond (f .known) (allSizes (f .arguments) n) 65536
 
 -- one text after another
 pub after : (xs ys : Bytes) (p q r : Page) → q ≡ entered xs p → r ≡ entered ys q → r ≡ entered (xs ++ ys) p

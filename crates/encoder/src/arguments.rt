@@ -3,8 +3,9 @@ ghost use mathlib.Core.Path.{_≡_};
 ghost use Prim.Native.Nat.{_≤_};
 ghost use Rattle.ground.specs.Rows.{digits};
 ghost use Rattle.printout.specs.Page.{page, entered};
-ghost use Rattle.encoder.specs.Written.{oneField, allFields, oneSize, allSizes};
+ghost use Rattle.encoder.specs.Written.{oneField, allFields, oneSize, allSizes, formSize};
 
+use stream::Form;
 use stream::Request;
 
 use crate::fields::put_field;
@@ -69,7 +70,7 @@ fn field_size(argument: u8, n: usize) -> usize
 }
 
 // The length of all of them.
-pub(crate) fn value_size(arguments: [u8; 5], n: usize) -> usize
+fn value_size(arguments: [u8; 5], n: usize) -> usize
     requires { ⌜ n ≤ 65536 ⌝ }
     ensures { λ r. ⌜ r ≡ allSizes arguments n ⌝ }
 {
@@ -80,4 +81,13 @@ pub(crate) fn value_size(arguments: [u8; 5], n: usize) -> usize
         i += 1;
     }
     size
+}
+
+// The length of a command's value; that of an unknown tag counts as too long.
+pub(crate) fn command_size(form: Form, n: usize) -> usize
+    requires { ⌜ n ≤ 65536 ⌝ }
+    ensures { λ r. ⌜ r ≡ formSize form n ⌝ }
+{
+    let arguments = form.arguments;
+    if form.known { value_size(arguments, n) } else { 65536 }
 }

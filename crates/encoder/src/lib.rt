@@ -10,24 +10,20 @@ use printout::page::first_of;
 use stream::Request;
 use stream::commands::form_of;
 
+use crate::arguments::command_size;
 use crate::arguments::put_arguments;
-use crate::arguments::value_size;
 use crate::fields::put_header;
 
-// Nothing for an unknown tag, nor for a value too long for two bytes of length. Of data that is too long for any, 65536 bytes are counted.
+// Nothing for an unknown tag, nor for a value too long for two bytes of length. Of the data at most 65536 bytes are counted.
 pub fn put_command(paper: &mut [u8], at: usize, asked: Request, text: &[u8]) -> usize
     ensures { λ r. ⌜ page (now (paper .exit)) r ≡ entered (encoded asked (now (text .entry))) (page (now (paper .entry)) at) ⌝ }
 {
     let form = form_of(asked.tag);
     let arguments = form.arguments;
-    let size = value_size(arguments, first_of(text, 65536).len());
-    if form.known {
-        if size < 65536 {
-            let next = put_header(&mut paper[..], at, asked.tag, size);
-            put_arguments(&mut paper[..], next, arguments, asked, text)
-        } else {
-            at
-        }
+    let size = command_size(form, first_of(text, 65536).len());
+    if size < 65536 {
+        let next = put_header(&mut paper[..], at, asked.tag, size);
+        put_arguments(&mut paper[..], next, arguments, asked, text)
     } else {
         at
     }
