@@ -128,10 +128,11 @@ module _ (a : Request) (d : Bytes) (eight : (length (a .block) ≡ 8) × (length
     short-with : sizeBy (padded 5 ks) d < 65536 → encodedWith a d (some ks) ≡ put (sizeBy (padded 5 ks) d) (padded 5 ks)
     short-with l =
         let n : length (spelled ks a d) ≡ sizeBy (padded 5 ks) d = value-length ∙ counted (padded 5 ks) d l in
-        rw (lt-ltb (length (spelled ks a d)) 65536 (omega (arith, n))) (ap₂ (λ (m : ℕ) (v : Bytes). (a .tag ∷ digits 256 2 m) ++ v) n (sym fields))
+        ap (λ (b : Bool). cond b (field (a .tag) (spelled ks a d)) []) (lt-ltb (length (spelled ks a d)) 65536 (omega (arith, n)))
+        ∙ ap₂ (λ (m : ℕ) (v : Bytes). (a .tag ∷ digits 256 2 m) ++ v) n (sym fields)
 
     long-with : 65536 ≤ sizeBy (padded 5 ks) d → encodedWith a d (some ks) ≡ []
-    long-with l = rw (le-ltb (length (spelled ks a d)) 65536 (omega (arith, value-length, too-long (padded 5 ks) d l)))
+    long-with l = ap (λ (b : Bool). cond b (field (a .tag) (spelled ks a d)) []) (le-ltb (length (spelled ks a d)) 65536 (omega (arith, value-length, too-long (padded 5 ks) d l)))
 
   nothing : 65536 ≤ formSize (formOf (a .tag)) (length (take 65536 d)) → encoded a d ≡ []
   unfolding formSize formOf encoded
