@@ -1,0 +1,4 @@
+pub mod Encoded
+pub mod Written
+pub mod ByForm
+pub mod RoundTrip
