@@ -1,5 +1,5 @@
 -- The words of a command's fields.
-use mathlib.Core.Path.{_≡_, refl, sym, ap, _∙_}
+use mathlib.Core.Path.{_≡_, refl, sym, ap, ap₂, _∙_}
 use mathlib.Core.Bool.{Bool, true, false, cond}
 use mathlib.Core.List.{List, [], _∷_, _++_, map}
 use Prim.Native.Nat.{ℕ, zero, suc, _+_, _-_, _*_, _/_, _%_, _^_, _≤_, _<_}
@@ -12,7 +12,7 @@ use lib.ListN.{length, getD, take, drop, length-drop, drop-of-length-le}
 use lib.Seq.{drop-cons, take-all, take-nil}
 use borrow.Author.Tests.{le-leb, lt-leb}
 use Rattle.ground.specs.Rows.{row, row-split}
-use Rattle.printout.specs.Page.{Page, entered}
+use Rattle.printout.specs.Page.{Page, entered, then}
 use Rattle.words.specs.declared.Class.the-variants.{Digit, Hex}
 use Rattle.words.specs.declared.Expected.{Expected}
 use Rattle.words.specs.declared.Expected.the-variants.{Identifier, Interchange, Function, Block, Bytes, FewerBytes, NothingMore}
@@ -54,16 +54,24 @@ unhex (a ∷ b ∷ cs) = (16 * hexValue a + hexValue b) ∷ unhex cs
 abbrev pub part : ℕ → ℕ → List ℕ → List ℕ
 part start end s = take (end - start) (drop start s)
 
--- the bytes of at most so many plain words, one after the other
-abbrev pub rawBy : List ℕ → (ℕ → List ℕ) → Word → List ℕ
-rawBy l rest (PlainWord a e) = unhex (part a e l) ++ rest e
-rawBy l rest (TextWord a e) = []
-rawBy l rest (Broken at e) = []
-rawBy l rest (NoWord at) = []
+-- the bytes of a plain word's hex digits
+abbrev pub wordBytes : List ℕ → Word → List ℕ
+wordBytes l (PlainWord a e) = unhex (part a e l)
+wordBytes l (TextWord a e) = []
+wordBytes l (Broken at e) = []
+wordBytes l (NoWord at) = []
 
+-- where the words of raw bytes go on in a line of n letters
+abbrev pub rawNext : ℕ → Word → ℕ
+rawNext n (PlainWord a e) = e
+rawNext n (TextWord a e) = n
+rawNext n (Broken at e) = n
+rawNext n (NoWord at) = n
+
+-- the bytes of at most so many words, one after the other
 unfoldable pub rawFrom : ℕ → List ℕ → ℕ → List ℕ
 rawFrom zero l at = []
-rawFrom (suc n) l at = rawBy l (rawFrom n l) (wordAt l at)
+rawFrom (suc n) l at = wordBytes l (wordAt l at) ++ rawFrom n l (rawNext (length l) (wordAt l at))
 
 -- the bytes that a part of the line, or of what is kept of the answers, stands for
 abbrev pub meantBy : Origin → ℕ → ℕ → List ℕ → List ℕ → List ℕ
@@ -96,11 +104,14 @@ wrong at e = record { fits = false; at = at; expected = e; number = 0; bytes = s
 abbrev pub numeric : ℕ → Value
 numeric n = fitting n (source Letters 0 0)
 
+unfoldable pub numberFound : Expected → ℕ → Upto → Value
+numberFound e start u = cond (u .within) (numeric (u .number)) (wrong start e)
+
 -- digits alone, and not above the limit
 unfoldable pub numberValue : Expected → ℕ → ℕ → List ℕ → Value
 numberValue e limit start w =
     cond (ltb (runEnd Digit w 0) (length w)) (wrong (start + runEnd Digit w 0) e)
-    (cond (upTo limit (decimalValue w) .within) (numeric (upTo limit (decimalValue w) .number)) (wrong start e))
+    (numberFound e start (upTo limit (decimalValue w)))
 
 unfoldable pub functionLetter : ℕ → Bool
 functionLetter c = cond (eqb c (code "t")) true (cond (eqb c (code "r")) true (eqb c (code "s")))
@@ -142,13 +153,14 @@ abbrev pub bytesFor : Bool → Expected
 bytesFor true = Block
 bytesFor false = Bytes
 
+unfoldable pub answerFound : Bool → ℕ → List ℕ → ℕ → Upto → Value
+answerFound eight m ends start u = cond (u .within) (answerFor eight start (answerSource m ends (u .number))) (wrong start (bytesFor eight))
+
 unfoldable pub answerValue : Bool → ℕ → List ℕ → ℕ → List ℕ → Value
 answerValue eight m ends start w =
     cond (ltb (runEnd Digit w 1) (length w)) (wrong (start + runEnd Digit w 1) (bytesFor eight))
     (cond (leb (length w) 1) (wrong (start + 1) (bytesFor eight))
-    (cond (upTo 4294967295 (decimalValue (drop 1 w)) .within)
-    (answerFor eight start (answerSource m ends (upTo 4294967295 (decimalValue (drop 1 w)) .number)))
-    (wrong start (bytesFor eight))))
+    (answerFound eight m ends start (upTo 4294967295 (decimalValue (drop 1 w)))))
 
 abbrev pub hexFor : Bool → ℕ → List ℕ → Value
 hexFor true start w = hexBlock start w
@@ -208,6 +220,26 @@ above-limit limit n h = rw (lt-leb n limit h)
 pub within-limit : (limit n : ℕ) → n ≤ limit → upTo limit n ≡ record { within = true; number = n }
 unfolding upTo
 within-limit limit n h = rw (le-leb n limit h)
+
+-- one word of raw bytes put onto a page, and the rest
+raw-step : (n : ℕ) (l : List ℕ) (at : ℕ) (p : Page) → 0 < n
+    → entered (rawFrom (n - 1) l (rawNext (length l) (wordAt l at))) (entered (wordBytes l (wordAt l at)) p) ≡ entered (rawFrom n l at) p
+unfolding rawFrom
+raw-step zero l at p h = absurd (omega arith)
+raw-step (suc n) l at p h =
+    let e : suc n - 1 ≡ n = omega arith in
+    rw e (sym (then (wordBytes l (wordAt l at)) (rawFrom n l (rawNext (length l) (wordAt l at))) p))
+
+pub raw-turn : (n : ℕ) (l : List ℕ) (at next : ℕ) (w : Word) (p q : Page) → 0 < n → w ≡ wordAt l at → next ≡ rawNext (length l) w → q ≡ entered (wordBytes l w) p
+    → entered (rawFrom (n - 1) l next) q ≡ entered (rawFrom n l at) p
+raw-turn n l at next w p q h e f g =
+    ap₂ (λ (m : ℕ) (x : Page). entered (rawFrom (n - 1) l m) x) (f ∙ ap (rawNext (length l)) e) (g ∙ ap (λ (v : Word). entered (wordBytes l v) p) e)
+    ∙ raw-step n l at p h
+
+pub raw-end : (n : ℕ) (l : List ℕ) (at : ℕ) (p : Page) → n ≡ 0 → p ≡ entered (rawFrom n l at) p
+unfolding rawFrom entered
+raw-end zero l at p h = refl
+raw-end (suc n) l at p h = absurd (omega arith)
 
 -- ---- parts
 

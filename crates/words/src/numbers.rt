@@ -2,7 +2,7 @@
 ghost use mathlib.Core.Path.{_≡_};
 ghost use Prim.Native.Nat.{_+_, _-_, _≤_, _<_, _^_};
 ghost use lib.ListN.{length};
-ghost use Rattle.words.specs.Values.{decimalValue, upTo, numberValue};
+ghost use Rattle.words.specs.Values.{decimalValue, upTo, numberFound, numberValue};
 
 use crate::Class;
 use crate::Expected;
@@ -35,6 +35,12 @@ pub(crate) fn number_up_to(digits: &[u8], limit: u32) -> Upto
     Upto { within: true, number: n as u32 }
 }
 
+fn number_found(expected: Expected, start: usize, read: Upto) -> Value
+    ensures { λ r. ⌜ r ≡ numberFound expected start read ⌝ }
+{
+    if read.within { number(read.number) } else { wrong(start, expected) }
+}
+
 // The word as a number up to the limit; `start` is where it stands.
 pub(crate) fn number_value(expected: Expected, limit: u32, start: usize, word: &[u8]) -> Value
     requires { ⌜ start + length (now word) < 2 ^ 64 ⌝ }
@@ -44,6 +50,5 @@ pub(crate) fn number_value(expected: Expected, limit: u32, start: usize, word: &
     if digits < word.len() {
         return wrong(start + digits, expected);
     }
-    let read = number_up_to(word, limit);
-    if read.within { number(read.number) } else { wrong(start, expected) }
+    number_found(expected, start, number_up_to(word, limit))
 }

@@ -3,7 +3,7 @@ ghost use mathlib.Core.Path.{_≡_};
 ghost use Prim.Native.Nat.{_+_, _*_, _<_};
 ghost use lib.ListN.{length};
 ghost use Rattle.printout.specs.Page.{page, entered};
-ghost use Rattle.words.specs.Values.{hexValue, unhex, part, rawFrom, meant, answerSource};
+ghost use Rattle.words.specs.Values.{hexValue, unhex, part, wordBytes, rawNext, rawFrom, meant, answerSource};
 
 use crate::Origin;
 use crate::Source;
@@ -56,7 +56,31 @@ fn put_unhexed(paper: &mut [u8], at: usize, digits: &[u8]) -> usize
     to
 }
 
-// The bytes of all plain words from there on.
+// The bytes of a plain word's hex digits; any other word has none.
+fn put_word(paper: &mut [u8], at: usize, line: &[u8], word: Word) -> usize
+    ensures { λ r. ⌜ page (now (paper .exit)) r ≡ entered (wordBytes (now (line .entry)) word) (page (now (paper .entry)) at) ⌝ }
+{
+    match word {
+        Word::PlainWord { start, end } => put_unhexed(&mut paper[..], at, part_of(line, start, end)),
+        Word::TextWord { start: _, end: _ } => at,
+        Word::Broken { at: _, expected: _ } => at,
+        Word::NoWord { at: _ } => at,
+    }
+}
+
+// Where the words of raw bytes go on: after a plain word, or, where there is none, at the line's end.
+pub fn raw_next(length: usize, word: Word) -> usize
+    ensures { λ r. ⌜ r ≡ rawNext length word ⌝ }
+{
+    match word {
+        Word::PlainWord { start: _, end } => end,
+        Word::TextWord { start: _, end: _ } => length,
+        Word::Broken { at: _, expected: _ } => length,
+        Word::NoWord { at: _ } => length,
+    }
+}
+
+// The bytes of all plain words from there on: a line has at most as many words as letters.
 fn put_raw(paper: &mut [u8], at: usize, line: &[u8], start: usize) -> usize
     ensures { λ r. ⌜ page (now (paper .exit)) r ≡ entered (rawFrom (length (now (line .entry))) (now (line .entry)) start) (page (now (paper .entry)) at) ⌝ }
 {
@@ -64,16 +88,9 @@ fn put_raw(paper: &mut [u8], at: usize, line: &[u8], start: usize) -> usize
     let mut from = start;
     let mut turns = line.len();
     while 0 < turns {
-        let next = word_at(line, from);
-        match next {
-            Word::PlainWord { start: begin, end } => {
-                to = put_unhexed(&mut paper[..], to, part_of(line, begin, end));
-                from = end;
-            }
-            Word::TextWord { start: _, end: _ } => return to,
-            Word::Broken { at: _, expected: _ } => return to,
-            Word::NoWord { at: _ } => return to,
-        }
+        let word = word_at(line, from);
+        to = put_word(&mut paper[..], to, line, word);
+        from = raw_next(line.len(), word);
         turns -= 1;
     }
     to

@@ -2,12 +2,13 @@
 ghost use mathlib.Core.Path.{_≡_};
 ghost use Prim.Native.Nat.{_+_, _≤_, _<_, _^_};
 ghost use lib.ListN.{length};
-ghost use Rattle.words.specs.Values.{fitting, wrong, numeric, functionLetter, functionValue, hexBlock, dataOf, hexData, answerBlock, answerData, answerFor, bytesFor, answerValue, bytesValue};
+ghost use Rattle.words.specs.Values.{fitting, wrong, numeric, functionLetter, functionValue, hexBlock, dataOf, hexData, answerBlock, answerData, answerFor, bytesFor, answerFound, answerValue, bytesValue};
 
 use crate::Class;
 use crate::Expected;
 use crate::Origin;
 use crate::Source;
+use crate::Upto;
 use crate::Value;
 use crate::letters::run_end;
 use crate::numbers::number_up_to;
@@ -127,6 +128,16 @@ fn answer_for(eight: bool, start: usize, from: Source) -> Value
     if eight { answer_block(start, from) } else { answer_data(start, from) }
 }
 
+fn answer_found(eight: bool, kept: &[u8], ends: &[usize], start: usize, read: Upto) -> Value
+    ensures { λ r. ⌜ r ≡ answerFound eight (length (now (kept .entry))) (now (ends .entry)) start read ⌝ }
+{
+    if read.within {
+        answer_for(eight, start, answer_source(kept, ends, read.number as usize))
+    } else {
+        wrong(start, bytes_for(eight))
+    }
+}
+
 // The word `$n`: the bytes of answer n.
 fn answer_value(eight: bool, kept: &[u8], ends: &[usize], start: usize, word: &[u8]) -> Value
     requires { ⌜ (1 ≤ length (now word)) × (start + length (now word) < 2 ^ 64) ⌝ }
@@ -139,12 +150,7 @@ fn answer_value(eight: bool, kept: &[u8], ends: &[usize], start: usize, word: &[
     if word.len() <= 1 {
         return wrong(start + 1, bytes_for(eight));
     }
-    let read = number_up_to(text_from(word, 1), 4294967295);
-    if read.within {
-        answer_for(eight, start, answer_source(kept, ends, read.number as usize))
-    } else {
-        wrong(start, bytes_for(eight))
-    }
+    answer_found(eight, kept, ends, start, number_up_to(text_from(word, 1), 4294967295))
 }
 
 // A block, which has eight bytes, or data.

@@ -1,54 +1,45 @@
 use mathlib.Core.Path.{sym}
 use borrow.Author.Tests.{le-ltb, lt-ltb}
-use Rattle.words.specs.Values.{numberValue, upTo}
+use Rattle.words.specs.Values.{numberValue}
 use borrow.Author.Needs.{needs}
 use Rattle.words.proofs.numbers.number_value.Statement.{statement}
 use Rattle.words.proofs.numbers.number_value.Tie as tie
 use Rattle.words.proofs.numbers.number_value.Reads as reads
 use Rattle.words.proofs.numbers.number_value.Lts as lts
 use Rattle.words.proofs.letters.run_end.Reads as run-end-reads
+use Rattle.words.proofs.numbers.number_found.Reads as number-found-reads
 use Rattle.words.proofs.numbers.number_up_to.Reads as number-up-to-reads
-use Rattle.words.proofs.values.number.Reads as number-reads
 use Rattle.words.proofs.values.wrong.Reads as wrong-reads
 
--- src/numbers.rt:43:9
+-- src/numbers.rt:49:9
 run-end-requires : tie.Need-run-end-requires
 run-end-requires c κs = search needs
 
--- src/numbers.rt:45:22
+-- src/numbers.rt:51:22
 add-wrong : tie.Need-add-wrong
 add-wrong c = search needs
 
--- src/numbers.rt:45:9
+-- src/numbers.rt:51:9
 wrong-requires : tie.Need-wrong-requires
 wrong-requires c κs = search needs
 
--- src/numbers.rt:45:9
+-- src/numbers.rt:51:9
 returns : tie.Need-returns
 unfolding numberValue
 returns c = simp (c .wrong .ensures, lt-ltb _ _ (c .before .if1 .taken), sym (c .before .before .run-end .ensures))
 
--- src/numbers.rt:47:9
+-- src/numbers.rt:53:35
 number-up-to-requires : tie.Need-number-up-to-requires
 number-up-to-requires c κs = search needs
 
--- src/numbers.rt:48:22
-number-requires : tie.Need-number-requires
-number-requires c κs = search needs
+-- src/numbers.rt:53:5
+number-found-requires : tie.Need-number-found-requires
+number-found-requires c κs = search needs
 
--- src/numbers.rt:48:51
-wrong-requires-2 : tie.Need-wrong-requires-2
-wrong-requires-2 c κs = search needs
-
--- src/numbers.rt:39:1
+-- src/numbers.rt:45:1
 returns-2 : tie.Need-returns-2
 unfolding numberValue
-returns-2 c = simp (c .number .ensures, c .before .if2 .taken, sym (c .before .before .number-up-to .ensures), le-ltb _ _ (c .before .before .before .if1 .left), sym (c .before .before .before .before .run-end .ensures))
-
--- src/numbers.rt:39:1
-returns-3 : tie.Need-returns-3
-unfolding numberValue
-returns-3 c = simp (c .wrong2 .ensures, c .before .if2 .left, sym (c .before .before .number-up-to .ensures), le-ltb _ _ (c .before .before .before .if1 .left), sym (c .before .before .before .before .run-end .ensures))
+returns-2 c = simp (c .number-found .ensures, sym (c .before .number-up-to .ensures), le-ltb _ _ (c .before .before .if1 .left), sym (c .before .before .before .run-end .ensures))
 
 pub number-value-spec : {M : Type 1} → statement M
 number-value-spec =
@@ -59,7 +50,5 @@ number-value-spec =
     wrong-requires
     returns
     number-up-to-requires
-    number-requires
-    wrong-requires-2
-    returns-2
-    returns-3)
+    number-found-requires
+    returns-2)

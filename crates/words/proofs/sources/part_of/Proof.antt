@@ -40,7 +40,7 @@ slice-aggregate-result-2 c = search needs
 
 -- src/sources.rt:16:1
 returns : tie.Need-returns
-returns c = let h : length (c .before .before .before .args .s .now) ≤ c .before .before .before .args .end = omega arith in rest-all _ _ ∙ sym (part-rest _ _ _ h)
+returns c = let h : length (c .before .before .before .args .s .now) ≤ c .before .before .before .args .end = omega arith in rest-all (c .before .before .before .args .s .now) (c .before .before .before .args .start) ∙ sym (part-rest _ _ _ h)
 
 -- src/sources.rt:16:1
 returns-2 : tie.Need-returns-2

@@ -10,85 +10,85 @@ use Rattle.words.proofs.sources.part_of.Reads as part-of-reads
 use Rattle.words.proofs.sources.put_raw.Reads as put-raw-reads
 use Rattle.words.proofs.sources.put_unhexed.Reads as put-unhexed-reads
 
--- src/sources.rt:90:42
+-- src/sources.rt:107:42
 enum-told : tie.Need-enum-told
 enum-told c = search needs
 
--- src/sources.rt:90:62
+-- src/sources.rt:107:62
 part-of-requires : tie.Need-part-of-requires
 part-of-requires c κs = search needs
 
--- src/sources.rt:90:30
+-- src/sources.rt:107:30
 put-unhexed-requires : tie.Need-put-unhexed-requires
 put-unhexed-requires c κs = search needs
 
--- src/sources.rt:91:37
+-- src/sources.rt:108:37
 enum-told-2 : tie.Need-enum-told-2
 enum-told-2 c = search needs
 
--- src/sources.rt:91:29
+-- src/sources.rt:108:29
 put-raw-requires : tie.Need-put-raw-requires
 put-raw-requires c κs = search needs
 
--- src/sources.rt:92:36
+-- src/sources.rt:109:36
 enum-told-3 : tie.Need-enum-told-3
 enum-told-3 c = search needs
 
--- src/sources.rt:92:56
+-- src/sources.rt:109:56
 part-of-requires-2 : tie.Need-part-of-requires-2
 part-of-requires-2 c κs = search needs
 
--- src/sources.rt:92:28
+-- src/sources.rt:109:28
 put-all-requires : tie.Need-put-all-requires
 put-all-requires c κs = search needs
 
--- src/sources.rt:93:35
+-- src/sources.rt:110:35
 enum-told-4 : tie.Need-enum-told-4
 enum-told-4 c = search needs
 
--- src/sources.rt:93:55
+-- src/sources.rt:110:55
 part-of-requires-3 : tie.Need-part-of-requires-3
 part-of-requires-3 c κs = search needs
 
--- src/sources.rt:93:27
+-- src/sources.rt:110:27
 put-all-requires-2 : tie.Need-put-all-requires-2
 put-all-requires-2 c κs = search needs
 
--- src/sources.rt:83:1
+-- src/sources.rt:100:1
 same-length : tie.Need-same-length
 same-length c = search needs
 
--- src/sources.rt:83:1
+-- src/sources.rt:100:1
 returns : tie.Need-returns
 unfolding meant
-returns c = simp (c .before .paper .given .1, sym (c .before .before .put-unhexed .ensures), c .before .before .before .part-of .ensures, c .before .before .before .before .before .enum-told .given .1, c .before .before .before .before .before .before .match .keys1)
+returns c = simp (c .before .before .put-unhexed .ensures, c .before .before .before .part-of .ensures, c .before .before .before .before .before .enum-told .given .1, c .before .before .before .before .before .before .match .keys1)
 
--- src/sources.rt:83:1
+-- src/sources.rt:100:1
 same-length-2 : tie.Need-same-length-2
 same-length-2 c = search needs
 
--- src/sources.rt:83:1
+-- src/sources.rt:100:1
 returns-2 : tie.Need-returns-2
 unfolding meant
-returns-2 c = simp (c .before .paper2 .given .1, sym (c .before .before .put-raw .ensures), c .before .before .before .before .enum-told2 .given .1, c .before .before .before .before .before .match .keys2)
+returns-2 c = simp (c .before .before .put-raw .ensures, c .before .before .before .before .enum-told2 .given .1, c .before .before .before .before .before .match .keys2)
 
--- src/sources.rt:83:1
+-- src/sources.rt:100:1
 same-length-3 : tie.Need-same-length-3
 same-length-3 c = search needs
 
--- src/sources.rt:83:1
+-- src/sources.rt:100:1
 returns-3 : tie.Need-returns-3
 unfolding meant
-returns-3 c = simp (c .before .paper3 .given .1, sym (c .before .before .put-all .ensures), c .before .before .before .part-of2 .ensures, c .before .before .before .before .before .enum-told3 .given .1, c .before .before .before .before .before .before .match .keys3)
+returns-3 c = simp (c .before .before .put-all .ensures, c .before .before .before .part-of2 .ensures, c .before .before .before .before .before .enum-told3 .given .1, c .before .before .before .before .before .before .match .keys3)
 
--- src/sources.rt:83:1
+-- src/sources.rt:100:1
 same-length-4 : tie.Need-same-length-4
 same-length-4 c = search needs
 
--- src/sources.rt:83:1
+-- src/sources.rt:100:1
 returns-4 : tie.Need-returns-4
 unfolding meant
-returns-4 c = simp (c .before .paper4 .given .1, sym (c .before .before .put-all2 .ensures), c .before .before .before .part-of3 .ensures, c .before .before .before .before .before .enum-told4 .given .1, c .before .before .before .before .before .before .match .keys4)
+returns-4 c = simp (c .before .before .put-all2 .ensures, c .before .before .before .part-of3 .ensures, c .before .before .before .before .before .enum-told4 .given .1, c .before .before .before .before .before .before .match .keys4)
 
 pub put-meant-spec : {M : Type 1} → statement M
 put-meant-spec =

@@ -1,92 +1,67 @@
+use borrow.Author.Needs.{needs}
+use mathlib.Core.Path.{_≡_, refl, sym, ap, _∙_}
+use Prim.Native.Nat.{ℕ, _-_, _≤_, _<_}
+use native.Mathlib.Omega.{arith}
+use lib.ListN.{length}
+use Rattle.printout.specs.Page.{page, entered}
+use Rattle.words.specs.Split.{wordAt}
+use Rattle.words.specs.declared.Word.{Word}
+use Rattle.words.specs.Values.{wordBytes, rawNext, rawFrom, raw-turn, raw-end}
 use Rattle.words.proofs.sources.put_raw.Statement.{statement}
 use Rattle.words.proofs.sources.put_raw.Tie as tie
 use Rattle.words.proofs.sources.put_raw.Reads as reads
 use Rattle.words.proofs.sources.put_raw.Lts as lts
-use Rattle.words.proofs.sources.part_of.Reads as part-of-reads
-use Rattle.words.proofs.sources.put_unhexed.Reads as put-unhexed-reads
+use Rattle.words.proofs.sources.put_word.Reads as put-word-reads
+use Rattle.words.proofs.sources.raw_next.Reads as raw-next-reads
 use Rattle.words.proofs.split.word_at.Reads as word-at-reads
 
 abbrev Inv-loop : tie.InvT-loop
-Inv-loop paper₀ at line start to₀ from₀ turns₀ paper to from turns = ?
+Inv-loop paper₀ at line start to₀ from₀ turns₀ paper to from turns = (length paper ≡ length paper₀) × (entered (rawFrom turns line from) (page paper to) ≡ entered (rawFrom turns₀ line from₀) (page paper₀ to₀))
 
 abbrev μ-loop : tie.MeasureT-loop
-μ-loop paper₀ at line start to₀ from₀ turns₀ paper to from turns = ?
+μ-loop paper₀ at line start to₀ from₀ turns₀ paper to from turns = turns
 
--- src/sources.rt:66:5
+-- src/sources.rt:90:5
 loop-holds : tie.Need-loop-holds Inv-loop μ-loop
-loop-holds c = ?
+loop-holds c = (refl, refl)
 
--- src/sources.rt:67:13
+-- src/sources.rt:91:13
 word-at-requires : tie.Need-word-at-requires Inv-loop μ-loop
-word-at-requires c κs = ?
+word-at-requires c κs = search needs
 
--- src/sources.rt:69:38
-enum-known-next : tie.Need-enum-known-next Inv-loop μ-loop
-enum-known-next c = ?
+-- src/sources.rt:92:9
+put-word-requires : tie.Need-put-word-requires Inv-loop μ-loop
+put-word-requires c κs = search needs
 
--- src/sources.rt:70:54
-part-of-requires : tie.Need-part-of-requires Inv-loop μ-loop
-part-of-requires c κs = ?
+-- src/sources.rt:93:9
+raw-next-requires : tie.Need-raw-next-requires Inv-loop μ-loop
+raw-next-requires c κs = search needs
 
--- src/sources.rt:70:17
-put-unhexed-requires : tie.Need-put-unhexed-requires Inv-loop μ-loop
-put-unhexed-requires c κs = ?
-
--- src/sources.rt:73:52
-enum-told : tie.Need-enum-told Inv-loop μ-loop
-enum-told c = ?
-
--- src/sources.rt:73:52
-same-length : tie.Need-same-length Inv-loop μ-loop
-same-length c = ?
-
--- src/sources.rt:73:52
-returns : tie.Need-returns Inv-loop μ-loop
-returns c = ?
-
--- src/sources.rt:74:52
-enum-told-2 : tie.Need-enum-told-2 Inv-loop μ-loop
-enum-told-2 c = ?
-
--- src/sources.rt:74:52
-same-length-2 : tie.Need-same-length-2 Inv-loop μ-loop
-same-length-2 c = ?
-
--- src/sources.rt:74:52
-returns-2 : tie.Need-returns-2 Inv-loop μ-loop
-returns-2 c = ?
-
--- src/sources.rt:75:39
-enum-told-3 : tie.Need-enum-told-3 Inv-loop μ-loop
-enum-told-3 c = ?
-
--- src/sources.rt:75:39
-same-length-3 : tie.Need-same-length-3 Inv-loop μ-loop
-same-length-3 c = ?
-
--- src/sources.rt:75:39
-returns-3 : tie.Need-returns-3 Inv-loop μ-loop
-returns-3 c = ?
-
--- src/sources.rt:77:9
+-- src/sources.rt:94:9
 sub-turns : tie.Need-sub-turns Inv-loop μ-loop
-sub-turns c = ?
+sub-turns c = omega arith
 
--- src/sources.rt:66:5
+-- src/sources.rt:90:5
 loop-less : tie.Need-loop-less Inv-loop μ-loop
-loop-less c = ?
+loop-less c = omega arith
 
--- src/sources.rt:66:5
+-- src/sources.rt:90:5
 loop-again : tie.Need-loop-again Inv-loop μ-loop
-loop-again c = ?
+loop-again c =
+    let h : 0 < c .before .before .before .before .before .before .before .loop .turns = omega arith in (
+      c .before .before .before .put-word .kept .0 ∙ c .before .before .before .before .before .before .before .loop .inv .0,
+      raw-turn _ _ _ _ _ _ _ h (c .before .before .before .before .before .word-at .ensures) (c .raw-next .ensures) (c .before .before .before .put-word .ensures) ∙ c .before .before .before .before .before .before .before .loop .inv .1,
+    )
 
--- src/sources.rt:60:1
-same-length-4 : tie.Need-same-length-4 Inv-loop μ-loop
-same-length-4 c = ?
+-- src/sources.rt:84:1
+same-length : tie.Need-same-length Inv-loop μ-loop
+same-length c = c .before .loop .inv .0
 
--- src/sources.rt:60:1
-returns-4 : tie.Need-returns-4 Inv-loop μ-loop
-returns-4 c = ?
+-- src/sources.rt:84:1
+returns : tie.Need-returns Inv-loop μ-loop
+returns c =
+    let h : c .before .loop .turns ≡ 0 = omega arith in
+    raw-end _ _ _ _ h ∙ c .before .loop .inv .1
 
 pub put-raw-spec : {M : Type 1} → statement M
 put-raw-spec =
@@ -96,20 +71,10 @@ put-raw-spec =
     μ-loop
     loop-holds
     word-at-requires
-    enum-known-next
-    part-of-requires
-    put-unhexed-requires
-    enum-told
-    same-length
-    returns
-    enum-told-2
-    same-length-2
-    returns-2
-    enum-told-3
-    same-length-3
-    returns-3
+    put-word-requires
+    raw-next-requires
     sub-turns
     loop-less
     loop-again
-    same-length-4
-    returns-4)
+    same-length
+    returns)

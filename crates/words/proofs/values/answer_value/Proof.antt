@@ -9,86 +9,64 @@ use Rattle.words.proofs.values.answer_value.Lts as lts
 use Rattle.stream.proofs.commands.text_from.Reads as text-from-reads
 use Rattle.words.proofs.letters.run_end.Reads as run-end-reads
 use Rattle.words.proofs.numbers.number_up_to.Reads as number-up-to-reads
-use Rattle.words.proofs.sources.answer_source.Reads as answer-source-reads
-use Rattle.words.proofs.values.answer_for.Reads as answer-for-reads
+use Rattle.words.proofs.values.answer_found.Reads as answer-found-reads
 use Rattle.words.proofs.values.bytes_for.Reads as bytes-for-reads
 use Rattle.words.proofs.values.wrong.Reads as wrong-reads
 
--- src/values.rt:135:9
+-- src/values.rt:146:9
 run-end-requires : tie.Need-run-end-requires
 run-end-requires c κs = search needs
 
--- src/values.rt:137:22
+-- src/values.rt:148:22
 add-wrong : tie.Need-add-wrong
 add-wrong c = search needs
 
--- src/values.rt:137:38
+-- src/values.rt:148:38
 bytes-for-requires : tie.Need-bytes-for-requires
 bytes-for-requires c κs = search needs
 
--- src/values.rt:137:9
+-- src/values.rt:148:9
 wrong-requires : tie.Need-wrong-requires
 wrong-requires c κs = search needs
 
--- src/values.rt:137:9
+-- src/values.rt:148:9
 returns : tie.Need-returns
 unfolding answerValue
 returns c = simp (c .wrong .ensures, sym (c .before .bytes-for .ensures), lt-ltb _ _ (c .before .before .if1 .taken), sym (c .before .before .before .run-end .ensures))
 
--- src/values.rt:140:22
+-- src/values.rt:151:22
 add-wrong-2 : tie.Need-add-wrong-2
 add-wrong-2 c = search needs
 
--- src/values.rt:140:33
+-- src/values.rt:151:33
 bytes-for-requires-2 : tie.Need-bytes-for-requires-2
 bytes-for-requires-2 c κs = search needs
 
--- src/values.rt:140:9
+-- src/values.rt:151:9
 wrong-requires-2 : tie.Need-wrong-requires-2
 wrong-requires-2 c κs = search needs
 
--- src/values.rt:140:9
+-- src/values.rt:151:9
 returns-2 : tie.Need-returns-2
 unfolding answerValue
 returns-2 c = simp (c .wrong2 .ensures, sym (c .before .bytes-for2 .ensures), le-leb _ _ (c .before .before .if2 .taken), le-ltb _ _ (c .before .before .before .if1 .left), sym (c .before .before .before .before .run-end .ensures))
 
--- src/values.rt:142:29
+-- src/values.rt:153:57
 text-from-requires : tie.Need-text-from-requires
 text-from-requires c κs = search needs
 
--- src/values.rt:142:9
+-- src/values.rt:153:44
 number-up-to-requires : tie.Need-number-up-to-requires
 number-up-to-requires c κs = search needs
 
--- src/values.rt:144:60
-cast-answer-source : tie.Need-cast-answer-source
-cast-answer-source c = search needs
+-- src/values.rt:153:5
+answer-found-requires : tie.Need-answer-found-requires
+answer-found-requires c κs = search needs
 
--- src/values.rt:144:34
-answer-source-requires : tie.Need-answer-source-requires
-answer-source-requires c κs = search needs
-
--- src/values.rt:144:9
-answer-for-requires : tie.Need-answer-for-requires
-answer-for-requires c κs = search needs
-
--- src/values.rt:146:22
-bytes-for-requires-3 : tie.Need-bytes-for-requires-3
-bytes-for-requires-3 c κs = search needs
-
--- src/values.rt:146:9
-wrong-requires-3 : tie.Need-wrong-requires-3
-wrong-requires-3 c κs = search needs
-
--- src/values.rt:131:1
+-- src/values.rt:142:1
 returns-3 : tie.Need-returns-3
 unfolding answerValue
-returns-3 c = simp (c .answer-for .ensures, sym (c .before .answer-source .ensures), c .before .before .before .if3 .taken, sym (c .before .before .before .before .number-up-to .ensures), sym (c .before .before .before .before .before .text-from .ensures), lt-leb _ _ (c .before .before .before .before .before .before .if2 .left), le-ltb _ _ (c .before .before .before .before .before .before .before .if1 .left), sym (c .before .before .before .before .before .before .before .before .run-end .ensures))
-
--- src/values.rt:131:1
-returns-4 : tie.Need-returns-4
-unfolding answerValue
-returns-4 c = simp (c .wrong3 .ensures, sym (c .before .bytes-for3 .ensures), c .before .before .if3 .left, sym (c .before .before .before .number-up-to .ensures), sym (c .before .before .before .before .text-from .ensures), lt-leb _ _ (c .before .before .before .before .before .if2 .left), le-ltb _ _ (c .before .before .before .before .before .before .if1 .left), sym (c .before .before .before .before .before .before .before .run-end .ensures))
+returns-3 c = simp (c .answer-found .ensures, c .before .number-up-to .ensures, c .before .before .text-from .ensures, lt-leb _ _ (c .before .before .before .if2 .left), le-ltb _ _ (c .before .before .before .before .if1 .left), sym (c .before .before .before .before .before .run-end .ensures))
 
 pub answer-value-spec : {M : Type 1} → statement M
 answer-value-spec =
@@ -105,10 +83,5 @@ answer-value-spec =
     returns-2
     text-from-requires
     number-up-to-requires
-    cast-answer-source
-    answer-source-requires
-    answer-for-requires
-    bytes-for-requires-3
-    wrong-requires-3
-    returns-3
-    returns-4)
+    answer-found-requires
+    returns-3)

@@ -1,4 +1,4 @@
-use mathlib.Core.Path.{sym, _∙_}
+use mathlib.Core.Path.{refl, sym, _∙_}
 use borrow.Author.Tests.{eq-eqb, ne-eqb}
 use Rattle.words.specs.Values.{functionValue}
 use borrow.Author.Needs.{needs}
@@ -42,7 +42,7 @@ wrong-requires-2 c κs = search needs
 -- src/values.rt:53:1
 returns : tie.Need-returns
 unfolding functionValue
-returns c = simp (c .number .ensures, c .before .wide .ensures, sym (c .before .before .before .before .is-function .ensures) ∙ c .before .before .before .if2 .taken, eq-eqb _ _ (c .before .before .before .before .before .before .if1 .taken)) ?
+returns c = simp (c .number .ensures, c .before .wide .ensures, sym (c .before .before .before .before .is-function .ensures) ∙ c .before .before .before .if2 .taken, eq-eqb _ _ (c .before .before .before .before .before .before .if1 .taken)) refl
 
 -- src/values.rt:53:1
 returns-2 : tie.Need-returns-2
