@@ -1,3 +1,4 @@
 pub mod Letters
 pub mod Split
 pub mod Values
+pub mod Names

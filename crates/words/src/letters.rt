@@ -6,7 +6,7 @@ ghost use Rattle.words.specs.Letters.{between, blank, isIn, front};
 
 use crate::Class;
 
-fn is_between(first: u8, last: u8, letter: u8) -> bool
+pub(crate) fn is_between(first: u8, last: u8, letter: u8) -> bool
     ensures { λ r. ⌜ r ≡ between first last letter ⌝ }
 {
     if first <= letter { letter <= last } else { false }

@@ -1,5 +1,6 @@
 // Commands in words: one line of text, and the command that it says.
 pub mod letters;
+pub mod names;
 pub mod numbers;
 pub mod sources;
 pub mod split;
@@ -76,6 +77,13 @@ pub enum Says {
     Help,
     Who,
     Quit,
+}
+
+// What a first word begins: nothing known, a command with its tag, or another of these.
+pub struct Start {
+    pub known: bool,
+    pub says: Says,
+    pub tag: u8,
 }
 
 // How far a line has been read: what it says, or, where it does not fit, the place and what was expected there. A column is the place and one.
