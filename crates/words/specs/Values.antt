@@ -8,7 +8,7 @@ use lib.Dec.{eqb, ltb, leb}
 use native.Mathlib.Nat.{one-le-pow, mul-le-mul-left}
 use native.Mathlib.Omega.{arith}
 use native.Mathlib.Numerals.{add-one}
-use lib.ListN.{length, getD, take, drop, length-drop, drop-of-length-le}
+use lib.ListN.{length, getD, take, drop, length-take, length-drop, drop-of-length-le}
 use lib.Seq.{drop-cons, take-all, take-nil}
 use borrow.Author.Tests.{le-leb, lt-leb}
 use Rattle.ground.specs.Rows.{row, row-split}
@@ -251,3 +251,9 @@ part-past start end s h = ap (take (end - start)) (drop-of-length-le s h) ∙ ta
 
 pub part-rest : (start end : ℕ) (s : List ℕ) → length s ≤ end → part start end s ≡ drop start s
 part-rest start end s h = take-all (end - start) (drop start s) (omega (arith, length-drop start s))
+
+-- a part of s, counted from its start, lies below what start and s lie below
+pub part-fits : (start end : ℕ) (s : List ℕ) (n : ℕ) → start < n → length s < n → start + length (part start end s) < n
+part-fits start end s n h k =
+    let l : length (part start end s) ≤ length s - start = omega (arith, length-take (end - start) (drop start s), length-drop start s) in
+    omega arith

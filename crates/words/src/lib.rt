@@ -1,4 +1,5 @@
 // Commands in words: one line of text, and the command that it says.
+pub mod arguments;
 pub mod letters;
 pub mod names;
 pub mod numbers;

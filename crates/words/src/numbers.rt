@@ -12,6 +12,13 @@ use crate::letters::run_end;
 use crate::values::number;
 use crate::values::wrong;
 
+// How much n is above m.
+pub(crate) fn less(n: usize, m: usize) -> usize
+    ensures { λ r. ⌜ r ≡ n - m ⌝ }
+{
+    if m <= n { n - m } else { 0 }
+}
+
 fn digit_value(letter: u8) -> u64
     ensures { λ r. ⌜ (r ≡ letter - 48) × (r ≤ 255) ⌝ }
 {
