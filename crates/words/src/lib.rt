@@ -3,10 +3,17 @@ pub mod arguments;
 pub mod letters;
 pub mod names;
 pub mod numbers;
+pub mod raw;
+pub mod reader;
 pub mod sources;
 pub mod split;
 pub mod values;
 
+ghost use mathlib.Core.Path.{_≡_};
+ghost use Rattle.stream.specs.Commands.{blank};
+ghost use Rattle.words.specs.Line.{wrongLine, begun};
+
+use crate::sources::source;
 use stream::Request;
 
 // Kinds of letters: blank; those of a plain word; those of a text; digits; hex digits.
@@ -95,4 +102,22 @@ pub struct Line {
     pub says: Says,
     pub asked: Request,
     pub bytes: Source,
+}
+
+fn blank(tag: u8) -> Request
+    ensures { λ r. ⌜ r ≡ blank tag ⌝ }
+{
+    Request { tag, issuer: 0, party: 0, interchange: 0, function: 0, block: [0; 8], second: [0; 8] }
+}
+
+fn wrong_line(at: usize, expected: Expected) -> Line
+    ensures { λ r. ⌜ r ≡ wrongLine at expected ⌝ }
+{
+    Line { fits: false, at, expected, says: Says::Nothing, asked: blank(0), bytes: source(Origin::Letters, 0, 0) }
+}
+
+fn begin(says: Says, tag: u8, at: usize, bytes: Source) -> Line
+    ensures { λ r. ⌜ r ≡ begun says tag at bytes ⌝ }
+{
+    Line { fits: true, at, expected: Expected::NothingMore, says, asked: blank(tag), bytes }
 }
