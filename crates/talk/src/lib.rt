@@ -1,0 +1,2 @@
+// The desk's answers in words, put onto a lent page.
+pub mod names;
