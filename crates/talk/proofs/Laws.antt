@@ -24,3 +24,7 @@ module _ (rs : List Row) (others : List ℕ) (n : ℕ) (p q : Page) where
 
   pub by-none : (T : Type 0) → Apart T n rs → q ≡ entered others p → q ≡ entered (beside n rs others) p
   by-none T h e = e ∙ ap (λ (ws : List ℕ). entered ws p) (sym (apart-others T n rs others h .1))
+
+-- a text entered in two parts
+pub two : (xs ys : List ℕ) (p q r : Page) → r ≡ entered ys q → q ≡ entered xs p → r ≡ entered (xs ++ ys) p
+two xs ys p q r f e = f ∙ ap (entered ys) e ∙ sym (then xs ys p)

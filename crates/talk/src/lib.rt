@@ -1,2 +1,3 @@
 // The desk's answers in words, put onto a lent page.
 pub mod names;
+pub mod replies;
