@@ -1,3 +1,4 @@
 pub mod Rows
 pub mod Names
 pub mod Replies
+pub mod Who
