@@ -1,11 +1,14 @@
 // Who is active, and what each active user holds, without a byte of a key.
 ghost use mathlib.Core.Path.{_≡_};
+ghost use lib.ListN.{length};
 ghost use Rattle.printout.specs.Page.{page, entered};
-ghost use Rattle.talk.specs.Who.{held, userLine, placeLine};
+ghost use Rattle.state.specs.State.{holders};
+ghost use Rattle.talk.specs.Who.{held, userLine, placeLine, placeLines, who};
 
 use printout::digits::put_decimal;
 use printout::page::put;
 use printout::page::put_all;
+use state::Facility;
 use state::Place;
 
 fn put_held(paper: &mut [u8], at: usize, what: &[u8], present: bool) -> usize
@@ -31,4 +34,41 @@ fn put_place(paper: &mut [u8], at: usize, p: Place) -> usize
     ensures { λ r. ⌜ page (now (paper .exit)) r ≡ entered (placeLine p) (page (now (paper .entry)) at) ⌝ }
 {
     if p.taken { put_user(&mut paper[..], at, p) } else { at }
+}
+
+fn active_users(places: [Place; 16]) -> usize
+    ensures { λ r. ⌜ r ≡ length (holders places) ⌝ }
+{
+    let mut n: usize = 0;
+    let mut i: usize = 0;
+    while i < 16 {
+        if places[i].taken {
+            n += 1;
+        }
+        i += 1;
+    }
+    n
+}
+
+fn put_places(paper: &mut [u8], at: usize, places: [Place; 16]) -> usize
+    ensures { λ r. ⌜ page (now (paper .exit)) r ≡ entered (placeLines places) (page (now (paper .entry)) at) ⌝ }
+{
+    let mut to = at;
+    let mut i: usize = 0;
+    while i < 16 {
+        let p = places[i];
+        to = put_place(&mut paper[..], to, p);
+        i += 1;
+    }
+    to
+}
+
+pub fn put_who(paper: &mut [u8], at: usize, f: Facility) -> usize
+    ensures { λ r. ⌜ page (now (paper .exit)) r ≡ entered (who (f .places)) (page (now (paper .entry)) at) ⌝ }
+{
+    let places = f.places;
+    let t1 = put_all(&mut paper[..], at, b"active users: ");
+    let t2 = put_decimal(&mut paper[..], t1, active_users(places));
+    let t3 = put_all(&mut paper[..], t2, b" of 16\n");
+    put_places(&mut paper[..], t3, places)
 }
