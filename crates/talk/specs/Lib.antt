@@ -2,3 +2,4 @@ pub mod Rows
 pub mod Names
 pub mod Replies
 pub mod Who
+pub mod Help
