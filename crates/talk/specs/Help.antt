@@ -1,15 +1,13 @@
 -- "`help` lists the commands with their arguments": in the page's order, and then the desk's own words.
 use mathlib.Core.List.{List, [], _∷_, _++_}
 use Prim.Native.Nat.{ℕ}
+use Prim.Native.Char.{code}
 use Prim.Native.String.{String}
 use Rattle.printout.specs.Text.{letters}
 
-abbrev lineFeed : ℕ
-lineFeed = 10
-
 abbrev lines : List String → List ℕ
 lines [] = []
-lines (s ∷ ss) = letters s ++ (lineFeed ∷ lines ss)
+lines (s ∷ ss) = letters s ++ (code "\n" ∷ lines ss)
 
 -- users and their keys
 unfoldable pub userHelp : List ℕ

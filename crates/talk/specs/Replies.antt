@@ -41,8 +41,5 @@ replies =
 unfoldable pub answer : ℕ → List ℕ
 answer reply = beside reply replies (letters "refused")
 
-abbrev lineFeed : ℕ
-lineFeed = 10
-
 unfoldable pub wordsOf : (tag reply : ℕ) → List ℕ
-wordsOf tag reply = letters "    " ++ (name tag ++ (code " " ∷ (answer reply ++ (lineFeed ∷ []))))
+wordsOf tag reply = letters "    " ++ (name tag ++ (code " " ∷ (answer reply ++ (code "\n" ∷ []))))

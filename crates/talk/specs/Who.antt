@@ -2,6 +2,7 @@
 use mathlib.Core.Bool.{Bool, cond}
 use mathlib.Core.List.{List, [], _∷_, _++_}
 use Prim.Native.Nat.{ℕ}
+use Prim.Native.Char.{code}
 use lib.ListN.{length}
 use Rattle.printout.specs.Text.{letters}
 use Rattle.printout.specs.Digits.{decimal}
@@ -12,9 +13,6 @@ use Rattle.state.specs.State.{holders}
 unfoldable pub held : List ℕ → Bool → List ℕ
 held what present = what ++ cond present (letters "present") (letters "missing")
 
-abbrev lineFeed : ℕ
-lineFeed = 10
-
 unfoldable pub userLine : ℕ → Holdings → List ℕ
 userLine u h =
     decimal u
@@ -22,7 +20,7 @@ userLine u h =
     ++ (held (letters ", receive key ") (h .receive .key .present)
     ++ (held (letters ", transmit IV ") (h .transmit .vector .present)
     ++ (held (letters ", receive IV ") (h .receive .vector .present)
-    ++ (lineFeed ∷ [])))))
+    ++ (code "\n" ∷ [])))))
 
 -- a free place has no line
 unfoldable pub placeLine : Place → List ℕ

@@ -1,4 +1,5 @@
 use mathlib.Core.List.{[], _∷_}
+use Prim.Native.Char.{code}
 use Rattle.printout.specs.Text.{letters}
 use Rattle.talk.specs.Names.{name}
 use Rattle.talk.specs.Replies.{answer, wordsOf}
@@ -12,7 +13,7 @@ unfolding wordsOf
 returns c =
     two (letters "    ") _ _ _ _
       (two (name _) _ _ _ _
-        (two (32 ∷ []) _ _ _ _
+        (two (code " " ∷ []) _ _ _ _
           (two (answer _) _ _ _ _
             (c .before .before .put2 .ensures)
             (c .before .before .before .before .before .before .put-answer .ensures))
