@@ -1,0 +1,5 @@
+pub mod Rows
+pub mod Names
+pub mod Replies
+pub mod Who
+pub mod Help

@@ -1,0 +1,5 @@
+// The desk's answers in words, put onto a lent page.
+pub mod help;
+pub mod names;
+pub mod replies;
+pub mod who;
