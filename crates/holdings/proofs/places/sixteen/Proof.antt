@@ -1,7 +1,7 @@
 use Prim.Native.Nat.{_≤_, _-_}
 use borrow.Author.Needs.{needs}
-use Rattle.edges.proofs.places.sixteen.Statement.{statement}
-use Rattle.edges.proofs.places.sixteen.Tie as tie
+use Rattle.holdings.proofs.places.sixteen.Statement.{statement}
+use Rattle.holdings.proofs.places.sixteen.Tie as tie
 
 abbrev Inv-loop : tie.InvT-loop
 Inv-loop f₀ i₀ f i = i ≤ 16

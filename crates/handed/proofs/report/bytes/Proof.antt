@@ -1,8 +1,8 @@
 use Prim.Native.Nat.{_≤_, _-_}
 use lib.ListN.{length}
 use borrow.Author.Needs.{needs}
-use Rattle.edges.proofs.report.bytes.Statement.{statement}
-use Rattle.edges.proofs.report.bytes.Tie as tie
+use Rattle.handed.proofs.report.bytes.Statement.{statement}
+use Rattle.handed.proofs.report.bytes.Tie as tie
 
 abbrev Inv-loop : tie.InvT-loop
 Inv-loop s i₀ i = i ≤ length s

@@ -1,7 +1,7 @@
 use Prim.Native.Nat.{_≤_, _-_}
 use borrow.Author.Needs.{needs}
-use Rattle.edges.proofs.flat.are_others_alike.Statement.{statement}
-use Rattle.edges.proofs.flat.are_others_alike.Tie as tie
+use Rattle.handed.proofs.flat.are_others_alike.Statement.{statement}
+use Rattle.handed.proofs.flat.are_others_alike.Tie as tie
 
 abbrev Inv-loop : tie.InvT-loop
 Inv-loop f g i alike₀ j₀ alike j = j ≤ 16
