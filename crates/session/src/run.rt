@@ -1,8 +1,6 @@
 // A stream carried out: its commands one after the other, and a line for each.
 ghost use mathlib.Core.Path.{_≡_};
-ghost use lib.ListN.{drop};
 ghost use Rattle.rules.specs.Commands.{left, over};
-ghost use Rattle.facility.specs.Requests.{performed};
 ghost use Rattle.printout.specs.Page.{page, entered};
 ghost use Rattle.session.specs.Run.{answerTo, answered, lineOf, leaves, printedRun};
 
@@ -14,19 +12,10 @@ use rules::Outcome;
 use rules::replies::refused;
 use state::Facility;
 use stream::Field;
-use stream::Request;
 use stream::commands::decode;
 use stream::commands::text_from;
 use stream::fields::value_at;
 use stream::reader::read_at;
-
-// The request, with its data in the value from `text` on.
-fn obey(f: Facility, table: &mut [u8], out: &mut [u8], asked: Request, value: &[u8], text: usize) -> Outcome
-    ensures { λ r. ⌜ left r (now (table .exit)) (now (out .exit)) ≡ performed (over f (now (table .entry))) asked (drop text (now (value .entry))) (now (out .entry)) ⌝ }
-{
-    let from = text_from(value, text);
-    perform(f, &mut table[..], &mut out[..], asked, from)
-}
 
 // The command of this tag and value: 16 where the value is not that of a command with this tag.
 pub fn answer_to(f: Facility, table: &mut [u8], out: &mut [u8], tag: u8, value: &[u8]) -> Outcome
@@ -34,7 +23,7 @@ pub fn answer_to(f: Facility, table: &mut [u8], out: &mut [u8], tag: u8, value: 
 {
     let reading = decode(tag, value);
     if reading.fits {
-        obey(f, &mut table[..], &mut out[..], reading.asked, value, reading.text)
+        perform(f, &mut table[..], &mut out[..], reading.asked, text_from(value, reading.text))
     } else {
         refused(f, 16)
     }
