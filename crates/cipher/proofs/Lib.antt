@@ -1,6 +1,3 @@
-pub mod Permutations
-pub mod Loops
-pub mod Undoing
 pub mod Parity
 pub mod Texts
 pub mod Turns

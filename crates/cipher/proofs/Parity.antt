@@ -10,10 +10,10 @@ use lib.Pow.{pow-add, field, mod-mod-pow}
 use lib.ListN.{length, getD}
 use Rattle.ground.specs.Tests.{both, both-left, both-right}
 use Rattle.ground.specs.Rows.{row, row-digit}
-use Rattle.cipher.specs.Bits.{bit, word}
-use Rattle.cipher.specs.Tables.{PC-1, shifts}
-use Rattle.cipher.specs.Fips46.{KS, scheduled}
-use Rattle.cipher.proofs.Permutations.{map-at}
+use Rattle.engine.specs.Bits.{bit, word}
+use Rattle.engine.specs.Tables.{PC-1, shifts}
+use Rattle.engine.specs.Fips46.{KS, scheduled}
+use Rattle.engine.proofs.Permutations.{map-at}
 use Rattle.cipher.specs.Cipher.{Octets}
 
 pow256 : (n : ℕ) → 256 ^ n ≡ 2 ^ (n * 8)

@@ -13,10 +13,10 @@ use Rattle.cipher.specs.declared.modes.Mode.the-variants.{Ecbe, Ecbd, Cb
 use Rattle.cipher.specs.declared.modes.Turn.{Turn}
 use Rattle.cipher.specs.declared.modes.Verdict.the-variants.{Done, BadLength, NoRoom}
 use Rattle.cipher.specs.Bits.{word, bytes}
-use Rattle.cipher.specs.Fips46.{computed, encipher, decipher, KS}
+use Rattle.engine.specs.Fips46.{computed, encipher, decipher, KS}
 use Rattle.cipher.specs.Fips81.{turned, keysFor, codebook, chain, unchain, given, left, blocks, joined, filled, lastBlock}
 use Rattle.cipher.specs.Cipher.{Octets, Whole, Way, ECB, CBC, CFB, enciphering, deciphering, vectorAfter, enciphered, deciphered, modeText, modeVector, fixity, onto, applied, ruled, fitting, valued, enciphered-means, deciphered-means, modeText-means, modeVector-means, fixity-means}
-use Rattle.cipher.proofs.Undoing.{computed-lt, computed-back}
+use Rattle.engine.proofs.Undoing.{computed-lt, computed-back}
 use Rattle.cipher.proofs.Parity.{KS-parity}
 use Rattle.cipher.proofs.Turns.{Undoes, given-length, given-join, left-join, given-back, left-back, codebook-undone, chain-undone, feedback-undone, Bounded, codebook-bounded, chain-bounded, unchain-bounded, feedback-bounded, unfeedback-bounded, given-below, left-lt, last, left-given, left-taken, left-still, feedback-64, unfeedback-64}
 use Rattle.cipher.proofs.Blocks.{word-lt, bytes-word, word-bytes, bytes-octets, blocks-below, blocks-length, joined-blocks, joined-length, blocks-joined, joined-whole, joined-append, blocks-append, last-joined}

@@ -12,7 +12,7 @@ use Rattle.cipher.specs.declared.modes.Mode.the-variants.{Ecbe, Ecbd, Cb
 use Rattle.cipher.specs.declared.modes.Verdict.{Verdict}
 use Rattle.cipher.specs.declared.modes.Verdict.the-variants.{Done, BadLength, NoRoom}
 use Rattle.cipher.specs.Bits.{word, bytes}
-use Rattle.cipher.specs.Fips46.{computed, encipher, decipher}
+use Rattle.engine.specs.Fips46.{computed, encipher, decipher}
 use Rattle.cipher.specs.Fips81.{given, left, turned, keysFor, blocks, joined}
 unfoldable pub use Rattle.cipher.specs.Fips81.{filled, lastBlock}
 

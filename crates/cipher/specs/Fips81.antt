@@ -7,7 +7,7 @@ use Rattle.cipher.specs.declared.modes.Mode.{Mode}
 use Rattle.cipher.specs.declared.modes.Mode.the-variants.{Ecbe, Ecbd, Cbce, Cbcd, Cfbe, Cfbd}
 use Rattle.cipher.specs.declared.modes.Turn.{Turn}
 use Rattle.cipher.specs.Bits.{word, bytes}
-use Rattle.cipher.specs.Fips46.{KS}
+use Rattle.engine.specs.Fips46.{KS}
 
 -- ---- what a mode makes of one unit of text x, where the vector is v: the unit that it gives, and the vector that it leaves
 

@@ -4,11 +4,11 @@ ghost use Rattle.cipher.specs.Cipher.{enciphered, deciphered};
 
 use crate::keys::DataKey;
 use crate::keys::NotarizedKey;
-use crate::rounds::compute;
-use crate::schedule::key_schedule;
-use crate::schedule::reversed;
-use crate::words::bytes_of;
-use crate::words::word_of;
+use engine::compute;
+use engine::key_schedule;
+use engine::reversed;
+use engine::bytes_of;
+use engine::word_of;
 
 fn forwards(key: [u8; 8], block: [u8; 8]) -> [u8; 8]
     ensures { λ r. ⌜ r ≡ enciphered key block ⌝ }

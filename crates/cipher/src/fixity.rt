@@ -1,17 +1,17 @@
 // The fixity value of a record: FIPS PUB 113, from a vector where that starts from zero, and with the whole of the last block.
 ghost use mathlib.Core.Path.{_≡_};
-ghost use Rattle.cipher.specs.Fips46.{computed};
+ghost use Rattle.engine.specs.Fips46.{computed};
 ghost use Rattle.cipher.specs.Fips81.{chain, left, blocks, filled};
 ghost use Rattle.cipher.specs.Cipher.{Value, valued};
 
 use crate::keys::DataKey;
 use crate::keys::Vector;
 use crate::modes::Verdict;
-use crate::rounds::compute;
-use crate::schedule::key_schedule;
+use engine::compute;
+use engine::key_schedule;
 use crate::words::block_at;
-use crate::words::bytes_of;
-use crate::words::word_of;
+use engine::bytes_of;
+use engine::word_of;
 
 // Eight zero bytes where the verdict is not Done.
 pub struct Fixity {

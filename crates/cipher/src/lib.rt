@@ -1,13 +1,11 @@
-// The data encryption standard (FIPS PUB 46) and its modes of operation (FIPS PUB 81, FIPS PUB 113).
+// Blocks and keys of the data encryption standard (FIPS PUB 46), and its modes of operation (FIPS PUB 81, FIPS PUB 113).
 // A layer above knows it by its contracts and by the laws of `proofs/Promise.antt`.
+
 pub mod block;
 pub mod fixity;
 pub mod keys;
 pub mod modes;
-mod rounds;
-mod schedule;
-mod tables;
 mod words;
 
-pub use words::bytes_of;
-pub use words::word_of;
+pub use engine::bytes_of;
+pub use engine::word_of;

@@ -3,19 +3,19 @@ ghost use mathlib.Core.Path.{_≡_};
 ghost use mathlib.Core.List.{_++_};
 ghost use Prim.Native.Nat.{_≤_, _%_, _/_};
 ghost use lib.ListN.{length, drop};
-ghost use Rattle.cipher.specs.Fips46.{computed};
+ghost use Rattle.engine.specs.Fips46.{computed};
 ghost use Rattle.cipher.specs.Fips81.{turned, keysFor, given, left, blocks, joined};
 ghost use Rattle.cipher.specs.Cipher.{Outcome, applied};
 
 use crate::keys::DataKey;
 use crate::keys::Vector;
-use crate::rounds::compute;
-use crate::schedule::key_schedule;
-use crate::schedule::reversed;
+use engine::compute;
+use engine::key_schedule;
+use engine::reversed;
 use crate::words::block_at;
-use crate::words::bytes_of;
+use engine::bytes_of;
 use crate::words::put_block;
-use crate::words::word_of;
+use engine::word_of;
 
 // By the names of their commands: E enciphers, D deciphers. CFB is the one of 64 bits.
 pub enum Mode {

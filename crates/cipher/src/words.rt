@@ -1,67 +1,13 @@
-// Bytes, words and bits. The first byte and the first bit of a word stand at the left.
+// Blocks of a text as words.
 ghost use mathlib.Core.Path.{_≡_};
-ghost use mathlib.Core.List.{map};
-ghost use Prim.Native.Nat.{_+_, _<_, _≤_, _^_};
-ghost use lib.Dec.{T};
-ghost use lib.ListN.{length, drop, getD};
+ghost use Prim.Native.Nat.{_+_, _≤_};
+ghost use lib.ListN.{length, drop};
 ghost use lib.Seq.{sets};
-ghost use Rattle.ground.specs.Rows.{row};
-ghost use Rattle.ground.specs.Tests.{within};
 ghost use Rattle.ground.specs.Lists.{padded};
-ghost use Rattle.cipher.specs.Bits.{bit, permuted, word, bytes};
+ghost use Rattle.cipher.specs.Bits.{word, bytes};
 
-pub fn wide(x: u8) -> u64
-    ensures { λ r. ⌜ (r ≡ x) × (r < 256) ⌝ }
-{
-    x as u64
-}
-
-// `out`, and to its right the bits of `x`, a word of `w` bits, that the entries of the table from `from` to `to` name.
-fn put_bits(out: u64, w: u64, table: &[u8], from: usize, to: usize, x: u64) -> u64
-    requires { ⌜ (w ≤ 64) × (length (now table) ≤ 64) × T (within 1 w (now table)) × (from ≤ to) × (to ≤ length (now table)) × (out < 2 ^ from) ⌝ }
-    ensures { λ r. ⌜ (row 2 r (map (bit w x) (drop to (now (table .entry)))) ≡ row 2 out (map (bit w x) (drop from (now (table .entry))))) × (r < 2 ^ to) ⌝ }
-{
-    let mut bits = out;
-    let mut i = from;
-    while i < to {
-        let n = w - wide(table[i]);
-        bits = bits * 2 + (x >> n) % 2;
-        i += 1;
-    }
-    bits
-}
-
-// The bits of `x`, a word of `w` bits, that the table names, in the table's order. Two shorter runs, since the compiler writes those out.
-pub fn permute(w: u64, table: &[u8], x: u64) -> u64
-    requires { ⌜ (w ≤ 64) × (length (now table) ≤ 64) × T (within 1 w (now table)) ⌝ }
-    ensures { λ r. ⌜ (r ≡ permuted w (now (table .entry)) x) × (r < 2 ^ length (now (table .entry))) ⌝ }
-{
-    let half = table.len() / 2;
-    let left = put_bits(0, w, table, 0, half, x);
-    put_bits(left, w, table, half, table.len(), x)
-}
-
-fn byte_or_zero(s: &[u8], i: usize) -> u64
-    ensures { λ r. ⌜ (r ≡ getD (now (s .entry)) i 0) × (r < 256) ⌝ }
-{
-    if i < s.len() {
-        return wide(s[i]);
-    }
-    0
-}
-
-// The first eight bytes of `s` as a word; where there are fewer, zero bytes on the right.
-pub fn first_block(s: &[u8]) -> u64
-    ensures { λ r. ⌜ r ≡ word (padded 8 (now (s .entry))) ⌝ }
-{
-    let mut x: u64 = 0;
-    let mut i: usize = 0;
-    while i < 8 {
-        x = x * 256 + byte_or_zero(s, i);
-        i += 1;
-    }
-    x
-}
+use engine::bytes_of;
+use engine::first_block;
 
 // The eight bytes of `s` from `at` on, as a word; where the end comes first, zero bytes on the right.
 pub fn block_at(s: &[u8], at: usize) -> u64
@@ -69,27 +15,6 @@ pub fn block_at(s: &[u8], at: usize) -> u64
     ensures { λ r. ⌜ r ≡ word (padded 8 (drop at (now (s .entry)))) ⌝ }
 {
     first_block(&s[at..])
-}
-
-pub fn word_of(b: [u8; 8]) -> u64
-    ensures { λ r. ⌜ r ≡ word b ⌝ }
-{
-    first_block(&b)
-}
-
-pub fn bytes_of(x: u64) -> [u8; 8]
-    ensures { λ r. ⌜ r ≡ bytes x ⌝ }
-{
-    [
-        ((x >> 56) % 256) as u8,
-        ((x >> 48) % 256) as u8,
-        ((x >> 40) % 256) as u8,
-        ((x >> 32) % 256) as u8,
-        ((x >> 24) % 256) as u8,
-        ((x >> 16) % 256) as u8,
-        ((x >> 8) % 256) as u8,
-        (x % 256) as u8,
-    ]
 }
 
 // The word `x` as the eight bytes of `s` from `at` on.

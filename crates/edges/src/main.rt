@@ -1,23 +1,17 @@
-// Carries out, on handed-in states and tables, what no command stream reaches: a line for each case, and the count.
-mod entries;
-mod flat;
-mod given;
-mod held_keys;
+// Carries out, on handed-in tables and texts, what no command stream reaches: a line for each case, and the count.
 mod identifiers;
 mod lengths;
-mod places;
-mod published;
-mod report;
 mod tables;
 mod texts;
 
+use handed::report::Tally;
+use handed::report::total;
+
 fn main() {
-    let t = report::Tally { cases: 0, wrong: 0 };
+    let t = Tally { cases: 0, wrong: 0 };
     let t = lengths::all(t);
     let t = texts::all(t);
     let t = identifiers::all(t);
     let t = tables::all(t);
-    let t = places::all(t);
-    let t = held_keys::all(t);
-    report::total(t);
+    total(t);
 }

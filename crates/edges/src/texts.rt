@@ -1,14 +1,14 @@
 // Refusal 12, the length of the data, and refusal 13, the length of the output.
 use cipher::modes::Mode;
-use crate::given::active;
-use crate::given::all_of;
-use crate::published::LOW_ZEROS;
-use crate::published::ZEROS;
-use crate::report::Tally;
-use crate::report::eight;
-use crate::report::left;
-use crate::report::reply;
-use crate::report::wrote;
+use handed::given::active;
+use handed::given::all_of;
+use handed::published::LOW_ZEROS;
+use handed::published::ZEROS;
+use handed::report::Tally;
+use handed::report::eight;
+use handed::report::left;
+use handed::report::reply;
+use handed::report::wrote;
 use records::by_mode;
 use records::daut;
 

@@ -2,7 +2,7 @@ use mathlib.Core.Path.{_∙_, ap, ap₂, sym}
 use mathlib.Core.List.{reverse}
 use borrow.Author.Needs.{needs}
 use Rattle.cipher.specs.Bits.{bytes}
-use Rattle.cipher.specs.Fips46.{computed, KS, decipher}
+use Rattle.engine.specs.Fips46.{computed, KS, decipher}
 use Rattle.cipher.specs.Cipher.{deciphered-means}
 use Rattle.cipher.proofs.block.backwards.Statement.{statement}
 use Rattle.cipher.proofs.block.backwards.Tie as tie

@@ -1,7 +1,7 @@
 use mathlib.Core.Path.{_∙_, ap, ap₂, sym}
 use borrow.Author.Needs.{needs}
 use Rattle.cipher.specs.Bits.{bytes}
-use Rattle.cipher.specs.Fips46.{computed, KS, encipher}
+use Rattle.engine.specs.Fips46.{computed, KS, encipher}
 use Rattle.cipher.specs.Cipher.{enciphered-means}
 use Rattle.cipher.proofs.block.forwards.Statement.{statement}
 use Rattle.cipher.proofs.block.forwards.Tie as tie

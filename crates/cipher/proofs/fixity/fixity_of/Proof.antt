@@ -6,7 +6,7 @@ use borrow.Author.Needs.{needs}
 use Rattle.cipher.specs.declared.modes.Mode.the-variants.{Cbce}
 use Rattle.cipher.specs.declared.modes.Verdict.the-variants.{Done}
 use Rattle.cipher.specs.Bits.{bytes}
-use Rattle.cipher.specs.Fips46.{computed, KS}
+use Rattle.engine.specs.Fips46.{computed, KS}
 use Rattle.cipher.specs.Fips81.{turned, keysFor, chain, left, blocks, filled}
 use Rattle.cipher.specs.Cipher.{fixity, modeVector-means}
 use Rattle.cipher.proofs.Promise.{valued-done, valued-none, fixity-vector}

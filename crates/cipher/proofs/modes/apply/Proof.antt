@@ -5,7 +5,7 @@ use lib.ListN.{length, drop}
 use borrow.Author.Needs.{needs}
 use Rattle.cipher.specs.declared.modes.Verdict.the-variants.{Done}
 use Rattle.cipher.specs.Bits.{word, bytes}
-use Rattle.cipher.specs.Fips46.{computed}
+use Rattle.engine.specs.Fips46.{computed}
 use Rattle.cipher.specs.Fips81.{turned, keysFor, given, left, blocks, joined}
 use Rattle.cipher.specs.Cipher.{Outcome, modeText-means, modeVector-means, modeText, modeVector, onto}
 use Rattle.cipher.proofs.Promise.{applied-done, applied-length, applied-room, modeText-length}

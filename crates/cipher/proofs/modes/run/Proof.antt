@@ -7,7 +7,7 @@ use borrow.Author.Needs.{needs}
 use Rattle.ground.specs.Lists.{padded}
 use Rattle.cipher.specs.declared.modes.Turn.{Turn}
 use Rattle.cipher.specs.Bits.{word}
-use Rattle.cipher.specs.Fips46.{computed}
+use Rattle.engine.specs.Fips46.{computed}
 use Rattle.cipher.specs.Fips81.{turned, given, left, blocks, joined}
 use Rattle.cipher.proofs.Texts.{left-step, left-end, given-step, given-end, rest-step, written}
 use Rattle.cipher.proofs.modes.run.Statement.{statement}

@@ -1,7 +1,7 @@
 use borrow.Author.Needs.{needs}
 use Rattle.cipher.specs.Fips81.{turned, codebook, chain, unchain}
-use Rattle.cipher.specs.Fips46.{computed}
-use Rattle.cipher.proofs.Undoing.{computed-lt}
+use Rattle.engine.specs.Fips46.{computed}
+use Rattle.engine.proofs.Undoing.{computed-lt}
 use Rattle.cipher.proofs.Turns.{feedback-64, unfeedback-64}
 use Rattle.cipher.proofs.modes.turn_of.Statement.{statement}
 use Rattle.cipher.proofs.modes.turn_of.Tie as tie
