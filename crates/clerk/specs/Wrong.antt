@@ -1,11 +1,12 @@
 -- "A line that says none of these is answered with the first column at which it stops being one, and with what was expected there".
+use mathlib.Core.Path.{_≡_, sym, ap, _∙_}
 use mathlib.Core.Bool.{cond}
 use mathlib.Core.List.{List, [], _∷_, _++_}
 use Prim.Native.Nat.{ℕ, _+_}
 use Prim.Native.Char.{code}
-use Prim.Native.String.{String}
 use lib.Dec.{ltb}
 use Rattle.printout.specs.Text.{letters}
+use Rattle.printout.specs.Page.{Page, entered}
 use Rattle.printout.specs.Digits.{decimal}
 use Rattle.words.specs.declared.Expected.{Expected}
 use Rattle.words.specs.declared.Expected.the-variants.{Name, Identifier, Interchange, Function, Block, Bytes, RawBytes, FewerBytes, ClosingQuote, SpaceAfterQuote, NothingMore}
@@ -36,3 +37,7 @@ wrongText number place expected =
     ++ (letters ": expected "
     ++ (expectedText expected
     ++ (code "\n" ∷ []))))))
+
+-- a text entered for what is known to be expected
+pub by-expected : (e known : Expected) (p q : Page) → e ≡ known → q ≡ entered (expectedText known) p → q ≡ entered (expectedText e) p
+by-expected e known p q h f = f ∙ ap (λ (x : Expected). entered (expectedText x) p) (sym h)
