@@ -24,7 +24,7 @@ expectedText ClosingQuote = letters "a closing quote"
 expectedText SpaceAfterQuote = letters "a space after the quote"
 expectedText NothingMore = letters "nothing more"
 
--- columns are counted from 1, places from 0; no line has a place of 64 ones, whose column would not be a number of 64 bits
+-- columns are counted from 1, places from 0; the last number of 64 bits, which is no line's place, is its own column
 unfoldable pub column : ℕ → ℕ
 column place = cond (ltb place 0xFFFFFFFFFFFFFFFF) (place + 1) place
 
