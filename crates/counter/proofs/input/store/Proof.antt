@@ -4,10 +4,10 @@ use native.Mathlib.Omega.{arith}
 use lib.ListN.{length, set, length-set}
 use borrow.Author.Needs.{needs}
 use borrow.Author.Needs.{needs}
-use Rattle.counter.proofs.store.Statement.{statement}
-use Rattle.counter.proofs.store.Tie as tie
-use Rattle.counter.proofs.store.Reads as reads
-use Rattle.counter.proofs.store.Lts as lts
+use Rattle.counter.proofs.input.store.Statement.{statement}
+use Rattle.counter.proofs.input.store.Tie as tie
+use Rattle.counter.proofs.input.store.Reads as reads
+use Rattle.counter.proofs.input.store.Lts as lts
 
 -- src/lib.rt:28:9
 slice-write-line : tie.Need-slice-write-line

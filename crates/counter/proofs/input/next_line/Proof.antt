@@ -3,12 +3,12 @@ use Prim.Native.Nat.{ℕ, _+_, _-_, _≤_, _<_}
 use native.Mathlib.Omega.{arith}
 use lib.ListN.{length, set, length-set}
 use borrow.Author.Needs.{needs}
-use Rattle.counter.proofs.next_line.Statement.{statement}
-use Rattle.counter.proofs.next_line.Tie as tie
-use Rattle.counter.proofs.next_line.Reads as reads
-use Rattle.counter.proofs.next_line.Lts as lts
-use Rattle.counter.proofs.next_letter.Reads as next-letter-reads
-use Rattle.counter.proofs.store.Reads as store-reads
+use Rattle.counter.proofs.input.next_line.Statement.{statement}
+use Rattle.counter.proofs.input.next_line.Tie as tie
+use Rattle.counter.proofs.input.next_line.Reads as reads
+use Rattle.counter.proofs.input.next_line.Lts as lts
+use Rattle.counter.proofs.input.next_letter.Reads as next-letter-reads
+use Rattle.counter.proofs.input.store.Reads as store-reads
 
 abbrev Inv-loop : tie.InvT-loop
 Inv-loop line₀ n₀ longer₀ turns₀ line n longer turns = (n ≤ length line) × (length line ≡ length line₀)
