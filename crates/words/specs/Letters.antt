@@ -18,13 +18,13 @@ unfoldable pub between : ℕ → ℕ → ℕ → Bool
 between first last c = cond (leb first c) (leb c last) false
 
 -- the space, the tab and the carriage return
-unfoldable pub blank : ℕ → Bool
-blank c = cond (eqb c 32) true (cond (eqb c 9) true (eqb c 13))
+unfoldable pub blankLetter : ℕ → Bool
+blankLetter c = cond (eqb c 32) true (cond (eqb c 9) true (eqb c 13))
 
 -- "Hex digits are 0 to 9, A to F and a to f."
 unfoldable pub isIn : Class → ℕ → Bool
-isIn Blank c = blank c
-isIn Plain c = cond (blank c) false (not (eqb c (code "#")))
+isIn Blank c = blankLetter c
+isIn Plain c = cond (blankLetter c) false (not (eqb c (code "#")))
 isIn Text c = not (eqb c (code "\""))
 isIn Digit c = between (code "0") (code "9") c
 isIn Hex c = cond (between (code "0") (code "9") c) true (cond (between (code "A") (code "F") c) true (between (code "a") (code "f") c))

@@ -1,6 +1,6 @@
 use mathlib.Core.Path.{_∙_}
 use Rattle.talk.specs.Help.{deskHelp}
-use Rattle.talk.proofs.Laws.{two}
+use Rattle.printout.specs.Page.{two}
 use borrow.Author.Needs.{needs}
 use Rattle.talk.proofs.help.put_desk_help.Statement.{statement}
 use Rattle.talk.proofs.help.put_desk_help.Tie as tie

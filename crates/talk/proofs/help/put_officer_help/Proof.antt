@@ -1,5 +1,5 @@
 use Rattle.talk.specs.Help.{officerHelp}
-use Rattle.talk.proofs.Laws.{two}
+use Rattle.printout.specs.Page.{two}
 use borrow.Author.Needs.{needs}
 use Rattle.talk.proofs.help.put_officer_help.Statement.{statement}
 use Rattle.talk.proofs.help.put_officer_help.Tie as tie

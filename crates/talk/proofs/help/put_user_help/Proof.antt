@@ -1,6 +1,6 @@
 use mathlib.Core.Path.{_∙_}
 use Rattle.talk.specs.Help.{userHelp}
-use Rattle.talk.proofs.Laws.{two}
+use Rattle.printout.specs.Page.{two}
 use borrow.Author.Needs.{needs}
 use Rattle.talk.proofs.help.put_user_help.Statement.{statement}
 use Rattle.talk.proofs.help.put_user_help.Tie as tie
