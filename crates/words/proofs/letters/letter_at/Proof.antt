@@ -11,7 +11,7 @@ returns : tie.Need-returns
 returns c = search needs
 
 returns-2 : tie.Need-returns-2
-returns-2 c = sym (getD-past _ _ (c .if1 .left))
+returns-2 c = sym (getD-past (c .before .args .line .now) (c .before .args .at) (c .if1 .left))
 
 pub letter-at-spec : {M : Type 1} → statement M
 letter-at-spec = tie.close (tie.spec shared-slice-read-result returns returns-2)
