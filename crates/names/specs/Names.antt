@@ -1,6 +1,6 @@
 -- The names of the commands, and what a line says by its first word.
 use mathlib.Core.Path.{_≡_, refl, sym, ap, _∙_}
-use mathlib.Core.Bool.{Bool, true, false, cond}
+use mathlib.Core.Bool.{Bool, true, false, cond, true≢false, false≢true}
 use mathlib.Core.List.{List, [], _∷_, _++_}
 use Prim.Native.Nat.{ℕ, zero, suc, _+_, _-_, _≤_, _<_}
 use Prim.Native.Char.{code}
@@ -12,6 +12,7 @@ use Rattle.printout.specs.Text.{letters}
 use Rattle.names.specs.declared.Says.{Says}
 use Rattle.names.specs.declared.Says.the-variants.{Nothing, Command, Raw, Help, Who, Quit}
 use Rattle.names.specs.declared.Start.{Start}
+use Rattle.ground.specs.Search.{byTest}
 use Rattle.printout.specs.Rows.{Row, _reads_, beside}
 use Rattle.words.specs.Letters.{between}
 
@@ -113,19 +114,22 @@ other-length (c ∷ cs) (n ∷ ns) h =
     both true = refl
     both false = refl
 
--- ---- the names in groups, one after the other
+-- ---- the names in groups, one after the other: what a group gives by itself, s, is the answer where it is known
 
-pub in-group : (w : List ℕ) (rs : List Row) (else : Start) → startIn w rs unknown .known ≡ true → startIn w rs unknown ≡ startIn w rs else
-in-group w [] else h = absurd (true-not-false (sym h))
-in-group w (r ∷ rs) else h = ?
+module _ (w : List ℕ) (else : Start) where
+  pub in-group : (rs : List Row) (s : Start) → s ≡ startIn w rs unknown → s .known ≡ true → s ≡ startIn w rs else
+  in-group rs s e h = e ∙ known rs (ap (λ (t : Start). t .known) (sym e) ∙ h)
+    where
+      known : (qs : List Row) → startIn w qs unknown .known ≡ true → startIn w qs unknown ≡ startIn w qs else
+      known [] k = absurd (false≢true k)
+      known (r ∷ qs) k = byTest (sameName w (r .words)) (λ b. rw b) (λ b. rw b (known qs (rw b at k)))
 
-pub not-in-group : (w : List ℕ) (rs : List Row) (else : Start) → startIn w rs unknown .known ≡ false → startIn w rs else ≡ else
-not-in-group w [] else h = refl
-not-in-group w (r ∷ rs) else h = ?
-
-pub groups : (w : List ℕ) (rs qs : List Row) (else : Start) → startIn w (rs ++ qs) else ≡ startIn w rs (startIn w qs else)
-groups w [] qs else = refl
-groups w (r ∷ rs) qs else = ap (λ (s : Start). cond (sameName w (r .words)) (begins Command (r .number)) s) (groups w rs qs else)
+  pub past-group : (rs : List Row) (s t : Start) → s ≡ startIn w rs unknown → s .known ≡ false → t ≡ else → t ≡ startIn w rs else
+  past-group rs s t e h f = f ∙ sym (not-known rs (ap (λ (q : Start). q .known) (sym e) ∙ h))
+    where
+      not-known : (qs : List Row) → startIn w qs unknown .known ≡ false → startIn w qs else ≡ else
+      not-known [] k = refl
+      not-known (r ∷ qs) k = byTest (sameName w (r .words)) (λ b. absurd (true≢false (rw b at k))) (λ b. rw b (not-known qs (rw b at k)))
 
 -- ---- the rows one by one
 

@@ -2,14 +2,11 @@ use Prim.Native.Nat.{_-_}
 use native.Mathlib.Omega.{arith}
 use mathlib.Core.Path.{_≡_}
 use mathlib.Core.Path.{sym, _∙_}
-use borrow.Author.Tests.{le-leb, lt-leb}
+use borrow.Author.Tests.{le-leb}
 use Rattle.names.specs.Names.{capital}
 use borrow.Author.Needs.{needs}
 use Rattle.names.proofs.spelling.capital_of.Statement.{statement}
 use Rattle.names.proofs.spelling.capital_of.Tie as tie
-
-is-between-requires : tie.Need-is-between-requires
-is-between-requires c κs = search needs
 
 returns : tie.Need-returns
 unfolding capital
@@ -24,4 +21,4 @@ unfolding capital
 returns-3 c = simp (sym (c .before .is-between .ensures) ∙ c .if1 .left)
 
 pub capital-of-spec : {M : Type 1} → statement M
-capital-of-spec = tie.close (tie.spec is-between-requires returns returns-2 returns-3)
+capital-of-spec = tie.close (tie.spec (λ c κs. search needs) returns returns-2 returns-3)

@@ -22,17 +22,8 @@ returns c = sym (other-length _ _ (c .if1 .taken))
 loop-holds : tie.Need-loop-holds Inv-loop μ-loop
 loop-holds c = (c .if1 .left, omega arith, refl)
 
-shared-slice-read-capital-of : tie.Need-shared-slice-read-capital-of Inv-loop μ-loop
-shared-slice-read-capital-of c = search needs
-
-capital-of-requires : tie.Need-capital-of-requires Inv-loop μ-loop
-capital-of-requires c κs = search needs
-
 shared-slice-read-if2 : tie.Need-shared-slice-read-if2 Inv-loop μ-loop
 shared-slice-read-if2 c = omega arith
-
-add-i : tie.Need-add-i Inv-loop μ-loop
-add-i c = search needs
 
 loop-less : tie.Need-loop-less Inv-loop μ-loop
 loop-less c = omega arith
@@ -73,10 +64,10 @@ is-name-spec =
     μ-loop
     returns
     loop-holds
-    shared-slice-read-capital-of
-    capital-of-requires
+    (λ c. search needs)
+    (λ c κs. search needs)
     shared-slice-read-if2
-    add-i
+    (λ c. search needs)
     loop-less
     loop-again
     returns-2

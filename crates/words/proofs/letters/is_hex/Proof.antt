@@ -4,15 +4,6 @@ use borrow.Author.Needs.{needs}
 use Rattle.words.proofs.letters.is_hex.Statement.{statement}
 use Rattle.words.proofs.letters.is_hex.Tie as tie
 
-is-between-requires : tie.Need-is-between-requires
-is-between-requires c κs = search needs
-
-is-between-requires-2 : tie.Need-is-between-requires-2
-is-between-requires-2 c κs = search needs
-
-is-between-requires-3 : tie.Need-is-between-requires-3
-is-between-requires-3 c κs = search needs
-
 returns : tie.Need-returns
 unfolding isIn
 returns c = simp (sym (c .before .is-between .ensures) ∙ c .if1 .taken)
@@ -29,9 +20,9 @@ pub is-hex-spec : {M : Type 1} → statement M
 is-hex-spec =
     tie.close
     (tie.spec
-    is-between-requires
-    is-between-requires-2
-    is-between-requires-3
+    (λ c κs. search needs)
+    (λ c κs. search needs)
+    (λ c κs. search needs)
     returns
     returns-2
     returns-3)

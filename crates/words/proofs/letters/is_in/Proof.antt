@@ -4,33 +4,6 @@ use borrow.Author.Needs.{needs}
 use Rattle.words.proofs.letters.is_in.Statement.{statement}
 use Rattle.words.proofs.letters.is_in.Tie as tie
 
-enum-told : tie.Need-enum-told
-enum-told c = search needs
-
-is-blank-requires : tie.Need-is-blank-requires
-is-blank-requires c κs = search needs
-
-enum-told-2 : tie.Need-enum-told-2
-enum-told-2 c = search needs
-
-is-blank-requires-2 : tie.Need-is-blank-requires-2
-is-blank-requires-2 c κs = search needs
-
-enum-told-3 : tie.Need-enum-told-3
-enum-told-3 c = search needs
-
-enum-told-4 : tie.Need-enum-told-4
-enum-told-4 c = search needs
-
-is-between-requires : tie.Need-is-between-requires
-is-between-requires c κs = search needs
-
-enum-told-5 : tie.Need-enum-told-5
-enum-told-5 c = search needs
-
-is-hex-requires : tie.Need-is-hex-requires
-is-hex-requires c κs = search needs
-
 returns : tie.Need-returns
 unfolding isIn
 returns c = simp (c .is-blank .ensures, c .before .enum-told .given .1, c .before .before .match .keys1)
@@ -59,15 +32,15 @@ pub is-in-spec : {M : Type 1} → statement M
 is-in-spec =
     tie.close
     (tie.spec
-    enum-told
-    is-blank-requires
-    enum-told-2
-    is-blank-requires-2
-    enum-told-3
-    enum-told-4
-    is-between-requires
-    enum-told-5
-    is-hex-requires
+    (λ c. search needs)
+    (λ c κs. search needs)
+    (λ c. search needs)
+    (λ c κs. search needs)
+    (λ c. search needs)
+    (λ c. search needs)
+    (λ c κs. search needs)
+    (λ c. search needs)
+    (λ c κs. search needs)
     returns
     returns-2
     returns-3

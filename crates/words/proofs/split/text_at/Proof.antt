@@ -5,25 +5,13 @@ use borrow.Author.Needs.{needs}
 use Rattle.words.proofs.split.text_at.Statement.{statement}
 use Rattle.words.proofs.split.text_at.Tie as tie
 
-run-end-requires : tie.Need-run-end-requires
-run-end-requires c κs = search needs
-
 returns : tie.Need-returns
 unfolding textAt
 returns c = simp (le-leb _ _ (c .if1 .taken), sym (c .before .run-end .ensures))
 
-add-stops-at : tie.Need-add-stops-at
-add-stops-at c = search needs
-
-stops-at-requires : tie.Need-stops-at-requires
-stops-at-requires c κs = search needs
-
 returns-2 : tie.Need-returns-2
 unfolding textAt
 returns-2 c = simp (sym (c .before .stops-at .ensures) ∙ c .if2 .taken, lt-leb _ _ (c .before .before .if1 .left), sym (c .before .before .before .run-end .ensures))
-
-add-t5 : tie.Need-add-t5
-add-t5 c = search needs
 
 returns-3 : tie.Need-returns-3
 unfolding textAt
@@ -32,4 +20,4 @@ returns-3 c = simp (sym (c .before .stops-at .ensures) ∙ c .if2 .left, lt-leb 
 pub text-at-spec : {M : Type 1} → statement M
 text-at-spec =
     tie.close
-    (tie.spec run-end-requires returns add-stops-at stops-at-requires returns-2 add-t5 returns-3)
+    (tie.spec (λ c κs. search needs) returns (λ c. search needs) (λ c κs. search needs) returns-2 (λ c. search needs) returns-3)
