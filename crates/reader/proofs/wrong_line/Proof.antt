@@ -1,6 +1,6 @@
 use Rattle.reader.specs.Line.{wrongLine}
 use borrow.Author.Needs.{needs}
-use Rattle.words.proofs.wrong_line.Statement.{statement}
+use Rattle.reader.proofs.wrong_line.Statement.{statement}
 use Rattle.reader.proofs.wrong_line.Tie as tie
 
 blank-requires : tie.Need-blank-requires

@@ -1,7 +1,7 @@
 use borrow.Author.Tests.{le-ltb, lt-ltb}
 use Rattle.reader.specs.Command.{after}
 use borrow.Author.Needs.{needs}
-use Rattle.words.proofs.reader.after_word.Statement.{statement}
+use Rattle.reader.proofs.command.after_word.Statement.{statement}
 use Rattle.reader.proofs.command.after_word.Tie as tie
 
 enum-known-word : tie.Need-enum-known-word

@@ -13,7 +13,7 @@ use Rattle.values.specs.declared.Source.{Source}
 use Rattle.values.specs.Sources.{source}
 use Rattle.reader.specs.Line.{soFar}
 use Rattle.reader.specs.Command.{readWords, endedLine, commandLine, words-step, words-end}
-use Rattle.words.proofs.reader.command_line.Statement.{statement}
+use Rattle.reader.proofs.command.command_line.Statement.{statement}
 use Rattle.reader.proofs.command.command_line.Tie as tie
 
 abbrev Inv-loop : tie.InvT-loop

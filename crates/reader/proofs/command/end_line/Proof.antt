@@ -1,7 +1,7 @@
 use mathlib.Core.Path.{sym}
 use Rattle.reader.specs.Command.{endedLine}
 use borrow.Author.Needs.{needs}
-use Rattle.words.proofs.reader.end_line.Statement.{statement}
+use Rattle.reader.proofs.command.end_line.Statement.{statement}
 use Rattle.reader.proofs.command.end_line.Tie as tie
 
 word-at-requires : tie.Need-word-at-requires

@@ -1,6 +1,6 @@
 use Rattle.reader.specs.Command.{nothingElse}
 use borrow.Author.Needs.{needs}
-use Rattle.words.proofs.reader.nothing_else.Statement.{statement}
+use Rattle.reader.proofs.command.nothing_else.Statement.{statement}
 use Rattle.reader.proofs.command.nothing_else.Tie as tie
 
 enum-known-word : tie.Need-enum-known-word

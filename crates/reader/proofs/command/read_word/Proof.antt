@@ -2,7 +2,7 @@ use mathlib.Core.Path.{sym}
 use borrow.Author.Tests.{eq-eqb, ne-eqb}
 use Rattle.reader.specs.Command.{readWord}
 use borrow.Author.Needs.{needs}
-use Rattle.words.proofs.reader.read_word.Statement.{statement}
+use Rattle.reader.proofs.command.read_word.Statement.{statement}
 use Rattle.reader.proofs.command.read_word.Tie as tie
 
 word-at-requires : tie.Need-word-at-requires

@@ -1,6 +1,6 @@
 use Rattle.reader.specs.Command.{tookValue}
 use borrow.Author.Needs.{needs}
-use Rattle.words.proofs.reader.take_value.Statement.{statement}
+use Rattle.reader.proofs.command.take_value.Statement.{statement}
 use Rattle.reader.proofs.command.take_value.Tie as tie
 
 with-value-requires : tie.Need-with-value-requires

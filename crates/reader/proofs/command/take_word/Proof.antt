@@ -1,6 +1,6 @@
 use Rattle.reader.specs.Command.{tookWord}
 use borrow.Author.Needs.{needs}
-use Rattle.words.proofs.reader.take_word.Statement.{statement}
+use Rattle.reader.proofs.command.take_word.Statement.{statement}
 use Rattle.reader.proofs.command.take_word.Tie as tie
 
 after-word-requires : tie.Need-after-word-requires

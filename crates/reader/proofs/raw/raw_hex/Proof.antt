@@ -2,7 +2,7 @@ use mathlib.Core.Path.{sym}
 use borrow.Author.Tests.{eq-eqb, le-ltb, lt-ltb, ne-eqb}
 use Rattle.reader.specs.Raw.{rawHex}
 use borrow.Author.Needs.{needs}
-use Rattle.words.proofs.raw.raw_hex.Statement.{statement}
+use Rattle.reader.proofs.raw.raw_hex.Statement.{statement}
 use Rattle.reader.proofs.raw.raw_hex.Tie as tie
 
 run-end-requires : tie.Need-run-end-requires

@@ -1,7 +1,7 @@
 use mathlib.Core.Path.{sym}
 use Rattle.reader.specs.Raw.{rawLine, rawStart}
 use borrow.Author.Needs.{needs}
-use Rattle.words.proofs.raw.raw_line.Statement.{statement}
+use Rattle.reader.proofs.raw.raw_line.Statement.{statement}
 use Rattle.reader.proofs.raw.raw_line.Tie as tie
 
 word-at-requires : tie.Need-word-at-requires

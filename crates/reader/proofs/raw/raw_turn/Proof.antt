@@ -1,7 +1,7 @@
 use mathlib.Core.Path.{sym}
 use Rattle.reader.specs.Raw.{rawTurn}
 use borrow.Author.Needs.{needs}
-use Rattle.words.proofs.raw.raw_turn.Statement.{statement}
+use Rattle.reader.proofs.raw.raw_turn.Statement.{statement}
 use Rattle.reader.proofs.raw.raw_turn.Tie as tie
 
 word-at-requires : tie.Need-word-at-requires

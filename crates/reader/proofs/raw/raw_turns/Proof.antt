@@ -3,7 +3,7 @@ use Prim.Native.Nat.{_<_}
 use native.Mathlib.Omega.{arith}
 use borrow.Author.Needs.{needs}
 use Rattle.reader.specs.Raw.{rawTurns, turns-step, turns-end}
-use Rattle.words.proofs.raw.raw_turns.Statement.{statement}
+use Rattle.reader.proofs.raw.raw_turns.Statement.{statement}
 use Rattle.reader.proofs.raw.raw_turns.Tie as tie
 
 abbrev Inv-loop : tie.InvT-loop

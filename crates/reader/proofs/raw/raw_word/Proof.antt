@@ -4,7 +4,7 @@ use mathlib.Core.Path.{sym}
 use Rattle.reader.specs.Raw.{rawWord}
 -- LOST part-fits
 use borrow.Author.Needs.{needs}
-use Rattle.words.proofs.raw.raw_word.Statement.{statement}
+use Rattle.reader.proofs.raw.raw_word.Statement.{statement}
 use Rattle.reader.proofs.raw.raw_word.Tie as tie
 
 enum-known-word : tie.Need-enum-known-word

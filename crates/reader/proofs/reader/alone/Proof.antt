@@ -1,7 +1,7 @@
 use mathlib.Core.Path.{sym}
 use Rattle.reader.specs.Reader.{aloneLine}
 use borrow.Author.Needs.{needs}
-use Rattle.words.proofs.reader.alone.Statement.{statement}
+use Rattle.reader.proofs.reader.alone.Statement.{statement}
 use Rattle.reader.proofs.reader.alone.Tie as tie
 
 source-requires : tie.Need-source-requires

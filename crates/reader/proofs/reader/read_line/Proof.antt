@@ -1,7 +1,7 @@
 use Rattle.reader.specs.Reader.{lineOf, firstWord}
 use mathlib.Core.Path.{sym}
 use borrow.Author.Needs.{needs}
-use Rattle.words.proofs.reader.read_line.Statement.{statement}
+use Rattle.reader.proofs.reader.read_line.Statement.{statement}
 use Rattle.reader.proofs.reader.read_line.Tie as tie
 
 word-at-requires : tie.Need-word-at-requires

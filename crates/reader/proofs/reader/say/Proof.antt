@@ -1,6 +1,6 @@
 use Rattle.reader.specs.Reader.{saysLine}
 use borrow.Author.Needs.{needs}
-use Rattle.words.proofs.reader.say.Statement.{statement}
+use Rattle.reader.proofs.reader.say.Statement.{statement}
 use Rattle.reader.proofs.reader.say.Tie as tie
 
 enum-told : tie.Need-enum-told

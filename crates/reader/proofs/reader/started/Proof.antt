@@ -1,6 +1,6 @@
 use Rattle.reader.specs.Reader.{startedLine}
 use borrow.Author.Needs.{needs}
-use Rattle.words.proofs.reader.started.Statement.{statement}
+use Rattle.reader.proofs.reader.started.Statement.{statement}
 use Rattle.reader.proofs.reader.started.Tie as tie
 
 say-requires : tie.Need-say-requires
