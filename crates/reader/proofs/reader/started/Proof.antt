@@ -3,12 +3,6 @@ use borrow.Author.Needs.{needs}
 use Rattle.reader.proofs.reader.started.Statement.{statement}
 use Rattle.reader.proofs.reader.started.Tie as tie
 
-say-requires : tie.Need-say-requires
-say-requires c κs = search needs
-
-wrong-line-requires : tie.Need-wrong-line-requires
-wrong-line-requires c κs = search needs
-
 returns : tie.Need-returns
 unfolding startedLine
 returns c = simp (c .say .ensures, c .before .if1 .taken)
@@ -18,4 +12,4 @@ unfolding startedLine
 returns-2 c = simp (c .wrong-line .ensures, c .before .if1 .left)
 
 pub started-spec : {M : Type 1} → statement M
-started-spec = tie.close (tie.spec say-requires wrong-line-requires returns returns-2)
+started-spec = tie.close (tie.spec (λ c κs. search needs) (λ c κs. search needs) returns returns-2)
