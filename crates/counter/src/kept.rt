@@ -4,11 +4,18 @@ ghost use Prim.Native.Nat.{_+_};
 ghost use lib.ListN.{take};
 ghost use Rattle.printout.specs.Page.{page};
 ghost use Rattle.session.specs.Run.{shownOf};
-ghost use Rattle.counter.specs.Kept.{keptBytes, endMarked};
+ghost use Rattle.counter.specs.Kept.{next, keptBytes, endMarked};
 
 use clerk::answers::put_returned;
 use clerk::answers::returned_length;
 use rules::Outcome;
+
+// The next answer's ordinal.
+pub fn one_more(n: usize) -> usize
+    ensures { λ r. ⌜ r ≡ next n ⌝ }
+{
+    if n < 0xFFFFFFFFFFFFFFFF { n + 1 } else { n }
+}
 
 // The answer's bytes, while they find room.
 pub fn keep(kept: &mut [u8], used: usize, done: Outcome, out: &[u8]) -> usize
