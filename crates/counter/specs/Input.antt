@@ -6,6 +6,8 @@ use Prim.Native.Char.{code}
 use lib.Dec.{eqb, ltb}
 use lib.ListN.{length}
 use Rattle.printout.specs.Page.{Page, page, letter}
+use Rattle.words.specs.declared.Line.{Line}
+use Rattle.clerk.specs.Told.{isQuit}
 use Rattle.counter.specs.declared.input.Got.{Got}
 
 -- a line as far as it has come: its letters, as many as found room; whether it has more; and whether its line feed has come
@@ -25,3 +27,7 @@ oneMore x p =
     cond (eqb x (code "\n"))
     (record { letters = p .letters; longer = p .longer; complete = true })
     (record { letters = letter x (p .letters); longer = cond (hasRoom (p .letters)) (p .longer) true; complete = false })
+
+-- "`quit`, or the input's end, ends the desk": the input ends with a line whose line feed has not come
+unfoldable pub isLast : Bool → Line → Bool
+isLast complete said = cond complete (isQuit said) true

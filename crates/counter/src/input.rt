@@ -1,8 +1,10 @@
 // Lines from standard input, letter by letter, so that each is answered before the next is waited for.
 ghost use mathlib.Core.Path.{_≡_};
-ghost use Rattle.counter.specs.Input.{partly, oneMore};
+ghost use Rattle.counter.specs.Input.{partly, oneMore, isLast};
 
+use clerk::told::is_quit;
 use printout::page::put;
+use words::Line;
 
 // A line as far as it has come: how many of its letters are there, whether it has more than found room, and whether its line feed has come.
 pub struct Got {
@@ -54,4 +56,11 @@ pub fn next_line(line: &mut [u8]) -> Got {
         turns -= 1;
     }
     got
+}
+
+// "`quit`, or the input's end, ends the desk."
+pub fn is_last(got: Got, said: Line) -> bool
+    ensures { λ r. ⌜ r ≡ isLast (got .complete) said ⌝ }
+{
+    if got.complete { is_quit(said) } else { true }
 }
