@@ -1,4 +1,7 @@
-// What the programs of the desk's page share: an answer's parts, the line for a bad line, and a line's bytes in the stream.
+// What the programs of the desk's page share: what a line says, its bytes in the stream, what is said of a line and to a command, and an answer's parts.
 pub mod answers;
 pub mod bytes;
+pub mod heard;
+pub mod replies;
+pub mod told;
 pub mod wrong;

@@ -1,12 +1,30 @@
 // Lines from standard input, letter by letter, so that each is answered before the next is waited for.
-ghost use Prim.Native.Nat.{_≤_};
-ghost use lib.ListN.{length};
+ghost use mathlib.Core.Path.{_≡_};
+ghost use Rattle.counter.specs.Input.{partly, oneMore, isLast};
 
-// What came of reading a line: how many letters of it are there, whether it has more than found room, and whether the input ended with it.
+use clerk::told::is_quit;
+use printout::page::put;
+use reader::Line;
+
+// A line as far as it has come: how many of its letters are there, whether it has more than found room, and whether its line feed has come.
 pub struct Got {
     pub letters: usize,
     pub longer: bool,
-    pub ended: bool,
+    pub complete: bool,
+}
+
+// One letter more: the line feed, or a letter of the line.
+pub fn take_letter(line: &mut [u8], got: Got, letter: u8) -> Got
+    ensures { λ r. ⌜ partly (now (line .exit)) r ≡ oneMore letter (partly (now (line .entry)) got) ⌝ }
+{
+    if letter == 10 {
+        Got { letters: got.letters, longer: got.longer, complete: true }
+    } else if got.letters < line.len() {
+        let letters = put(&mut line[..], got.letters, letter);
+        Got { letters, longer: got.longer, complete: false }
+    } else {
+        Got { letters: got.letters, longer: true, complete: false }
+    }
 }
 
 enum Letter {
@@ -20,40 +38,29 @@ fn next_letter() -> Letter {
     if got == 1 { Letter::Came(one[0]) } else { Letter::Ended }
 }
 
-// The letter stored, where there is room for it.
-fn store(line: &mut [u8], n: usize, letter: u8) -> usize
-    ensures { λ r. ⌜ (n ≤ length (now (line .entry)) → r ≤ length (now (line .exit))) ⌝ }
-{
-    if n < line.len() {
-        line[n] = letter;
-        n + 1
-    } else {
-        n
-    }
-}
-
-// The next line, without its line feed.
-pub fn next_line(line: &mut [u8]) -> Got
-    ensures { λ r. ⌜ r .letters ≤ length (now (line .exit)) ⌝ }
-{
-    let mut n: usize = 0;
-    let mut longer = false;
+// The next line, without its line feed; not complete where the input has ended.
+pub fn next_line(line: &mut [u8]) -> Got {
+    let mut got = Got { letters: 0, longer: false, complete: false };
     let mut turns = u64::MAX;
     while 0 < turns {
         let next = next_letter();
         match next {
             Letter::Came(letter) => {
-                if letter == 10 {
-                    return Got { letters: n, longer, ended: false };
+                got = take_letter(&mut line[..], got, letter);
+                if got.complete {
+                    return got;
                 }
-                if n == line.len() {
-                    longer = true;
-                }
-                n = store(&mut line[..], n, letter);
             }
-            Letter::Ended => return Got { letters: n, longer, ended: true },
+            Letter::Ended => return got,
         }
         turns -= 1;
     }
-    Got { letters: n, longer, ended: true }
+    got
+}
+
+// "`quit`, or the input's end, ends the desk."
+pub fn is_last(got: Got, said: Line) -> bool
+    ensures { λ r. ⌜ r ≡ isLast (got .complete) said ⌝ }
+{
+    if got.complete { is_quit(said) } else { true }
 }

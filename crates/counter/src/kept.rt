@@ -1,14 +1,28 @@
 // The bytes of the answers, kept for `$n`.
 ghost use mathlib.Core.Path.{_≡_};
 ghost use Prim.Native.Nat.{_+_};
-ghost use lib.ListN.{take};
+ghost use lib.ListN.{take, replicate};
 ghost use Rattle.printout.specs.Page.{page};
 ghost use Rattle.session.specs.Run.{shownOf};
-ghost use Rattle.counter.specs.Kept.{keptBytes, endMarked};
+ghost use Rattle.counter.specs.Kept.{next, keptBytes, endMarked};
 
 use clerk::answers::put_returned;
 use clerk::answers::returned_length;
 use rules::Outcome;
+
+// Room for the bytes of the answers. (Made here, where the length is proved from its number alone: a caller that made it would have the check count to it.)
+pub fn room() -> [u8; 1048576]
+    ensures { λ r. ⌜ r ≡ replicate 1048576 0 ⌝ }
+{
+    [0; 1048576]
+}
+
+// The next answer's ordinal.
+pub fn one_more(n: usize) -> usize
+    ensures { λ r. ⌜ r ≡ next n ⌝ }
+{
+    if n < 0xFFFFFFFFFFFFFFFF { n + 1 } else { n }
+}
 
 // The answer's bytes, while they find room.
 pub fn keep(kept: &mut [u8], used: usize, done: Outcome, out: &[u8]) -> usize

@@ -132,7 +132,7 @@ module _ (s : Bytes) where
   unfolding ranFrom
   turn w out at h = from (length s) w out at refl h
 
-  over : (w : World) (out : Bytes) (at : ℕ) → length s ≤ at → ranFrom s w out at ≡ ran w out []
+  pub over : (w : World) (out : Bytes) (at : ℕ) → length s ≤ at → ranFrom s w out at ≡ ran w out []
   unfolding ranFrom carryOn
   over w out at h = ends (length s) refl
     where

@@ -1,0 +1,19 @@
+-- "A line has at most 65536 letters": one that has more is wrong after them, where it is not wrong before.
+use mathlib.Core.Bool.{Bool, false, cond}
+use mathlib.Core.List.{List}
+use Prim.Native.Nat.{ℕ}
+use lib.Dec.{ltb}
+use lib.ListN.{length}
+use Rattle.words.specs.declared.Expected.the-variants.{NothingMore}
+use Rattle.reader.specs.declared.Line.{Line}
+use Rattle.reader.specs.Reader.{lineOf}
+
+unfoldable pub wrongBefore : Line → ℕ → Bool
+wrongBefore r n = cond (r .fits) false (ltb (r .at) n)
+
+-- a line that goes on past its first n letters, as they are read
+unfoldable pub cutAt : Line → ℕ → Line
+cutAt r n = cond (wrongBefore r n) r (record { fits = false; at = n; expected = NothingMore; says = r .says; asked = r .asked; bytes = r .bytes })
+
+unfoldable pub heard : Bool → List ℕ → List ℕ → List ℕ → Line
+heard longer l kept ends = cond longer (cutAt (lineOf l kept ends) (length l)) (lineOf l kept ends)

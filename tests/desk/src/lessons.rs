@@ -1,0 +1,161 @@
+//! `lessons`: each lesson's script through the desk, beside its transcript and its page.
+
+use crate::child::Program;
+use crate::desk::{Desk, Outcome};
+use std::fs;
+use std::io::Result;
+use std::path::{Path, PathBuf};
+
+const MOST_COMMANDS: usize = 30;
+
+pub fn lessons(desk: Program, directory: &Path, writes: bool) -> Result<bool> {
+    let entries =
+        fs::read_dir(directory)?.map(|entry| Ok(entry?.path())).collect::<Result<Vec<PathBuf>>>()?;
+    let mut lessons: Vec<PathBuf> = entries.into_iter().filter(|path| path.is_dir()).collect();
+    lessons.sort();
+    let mut faults = Vec::new();
+    for path in &lessons {
+        let found = Lesson::read(&desk, path, writes)?.faults();
+        faults.extend(found.into_iter().map(|fault| format!("{}: {fault}", path.display())));
+    }
+    faults.extend(readme_faults(&desk, directory)?);
+    faults.extend(index_faults(directory, &lessons)?);
+    faults.iter().for_each(|fault| println!("{fault}"));
+    println!("lessons: {} lessons, {} faults", lessons.len(), faults.len());
+    Ok(faults.is_empty() && !lessons.is_empty())
+}
+
+struct Lesson {
+    page: String,
+    script: String,
+    transcript: String,
+    printed: String,
+    ended_well: bool,
+}
+
+impl Lesson {
+    /// Runs the script; where asked, the transcript is written anew.
+    fn read(desk: &Program, path: &Path, writes: bool) -> Result<Lesson> {
+        let script = fs::read_to_string(path.join("script"))?;
+        let output = desk.run(script.as_bytes())?;
+        if writes {
+            fs::write(path.join("transcript"), &output.stdout)?;
+        }
+        let printed = String::from_utf8_lossy(&output.stdout).to_string();
+        let ended_well = output.status.success() && output.stderr.is_empty();
+        let transcript = fs::read_to_string(path.join("transcript"))?;
+        let page = fs::read_to_string(path.join("lesson.md"))?;
+        Ok(Lesson { page, script, transcript, printed, ended_well })
+    }
+
+    fn faults(&self) -> Vec<String> {
+        let mut faults = Vec::new();
+        if !self.ended_well {
+            faults.push("the desk ended badly".to_string());
+        }
+        if self.printed != self.transcript {
+            faults.push(other_line(&self.transcript, &self.printed));
+        }
+        let commands = self.commands();
+        if commands > MOST_COMMANDS {
+            faults.push(format!("{commands} commands, more than {MOST_COMMANDS}"));
+        }
+        let blocks = blocks(&self.page);
+        if blocks.is_empty() {
+            faults.push("the page shows nothing of the run".to_string());
+        }
+        faults.extend(blocks.iter().flat_map(|block| self.block_faults(block)));
+        faults
+    }
+
+    /// Each line of the script with its answer in the transcript; the model says how many lines that has.
+    fn answers(&self) -> Vec<(&str, Vec<&str>)> {
+        let mut desk = Desk::fresh();
+        let mut rest = self.transcript.lines();
+        let answer =
+            |line| (line, rest.by_ref().take(desk.take(str::as_bytes(line)).1.lines().count()).collect());
+        self.script.lines().map(answer).collect()
+    }
+
+    /// Lines that are commands or raw bytes, well said or not.
+    fn commands(&self) -> usize {
+        let mut desk = Desk::fresh();
+        let mut is_command =
+            |line: &str| matches!(desk.take(line.as_bytes()).0, Outcome::Answered(_) | Outcome::Bad(_));
+        self.script.lines().filter(|line| is_command(line)).count()
+    }
+
+    /// After `> ` stands a line of the script, and below it, if anything, its whole answer; other lines are of the transcript.
+    fn block_faults(&self, block: &[&str]) -> Vec<String> {
+        let answers = self.answers();
+        let mut faults = Vec::new();
+        for part in parts(block) {
+            let stands = match part[0].strip_prefix("> ") {
+                Some(typed) => answers
+                    .iter()
+                    .any(|(line, answer)| *line == typed && (part.len() == 1 || *answer == part[1..])),
+                None => part.iter().all(|line| self.transcript.lines().any(|other| other == *line)),
+            };
+            if !stands {
+                faults.push(format!("the page shows what the run has not: {}", part.join(" / ")));
+            }
+        }
+        faults
+    }
+}
+
+/// The blocks of a page: neighbouring lines that are indented by four spaces, without these.
+fn blocks(page: &str) -> Vec<Vec<&str>> {
+    let lines: Vec<Option<&str>> = page.lines().map(|line| line.strip_prefix("    ")).collect();
+    let blocks = lines.split(|line| line.is_none());
+    blocks
+        .map(|block| block.iter().copied().flatten().collect::<Vec<&str>>())
+        .filter(|block| !block.is_empty())
+        .collect()
+}
+
+/// A block cut before each line that was typed.
+fn parts<'a>(block: &'a [&'a str]) -> Vec<&'a [&'a str]> {
+    let mut parts = Vec::new();
+    let mut start = 0;
+    for at in 1..=block.len() {
+        if at == block.len() || block[at].starts_with("> ") {
+            parts.push(&block[start..at]);
+            start = at;
+        }
+    }
+    parts
+}
+
+fn other_line(transcript: &str, printed: &str) -> String {
+    let (mut wanted, mut found) = (transcript.split_inclusive('\n'), printed.split_inclusive('\n'));
+    for number in 1.. {
+        match (wanted.next(), found.next()) {
+            (None, None) => break,
+            (one, other) if one == other => {}
+            (one, other) => return format!("transcript, line {number}: {one:?}, but the desk: {other:?}"),
+        }
+    }
+    "transcript and desk differ".to_string()
+}
+
+/// The README beside the directory: its blocks that begin with a typed line are of the lesson `readme`.
+fn readme_faults(desk: &Program, directory: &Path) -> Result<Vec<String>> {
+    let lesson = Lesson::read(desk, &directory.join("readme"), false)?;
+    let readme = fs::read_to_string(directory.join("../README.md"))?;
+    let mut shown = blocks(&readme);
+    shown.retain(|block| block[0].starts_with("> "));
+    if shown.is_empty() {
+        return Ok(vec!["README.md shows nothing of lessons/readme".to_string()]);
+    }
+    let faults = shown.iter().flat_map(|block| lesson.block_faults(block));
+    Ok(faults.map(|fault| format!("README.md: {fault}")).collect())
+}
+
+/// The index has to name every lesson.
+fn index_faults(directory: &Path, lessons: &[PathBuf]) -> Result<Vec<String>> {
+    let index = fs::read_to_string(directory.join("README.md"))?;
+    let names = lessons.iter().filter_map(|path| path.file_name()?.to_str());
+    let missing = names.filter(|name| !index.contains(&format!("`{name}`")));
+    Ok(missing.map(|name| format!("lessons/README.md does not name {name}")).collect())
+}
