@@ -7,6 +7,8 @@ use std::io::Result;
 use std::path::{Path, PathBuf};
 
 const MOST_COMMANDS: usize = 30;
+/// Lessons whose pages a new user follows line by line.
+const SHOWN_WHOLE: [&str; 2] = ["first-hour", "readme"];
 
 pub fn lessons(desk: Program, directory: &Path, writes: bool) -> Result<bool> {
     let entries =
@@ -15,7 +17,11 @@ pub fn lessons(desk: Program, directory: &Path, writes: bool) -> Result<bool> {
     lessons.sort();
     let mut faults = Vec::new();
     for path in &lessons {
-        let found = Lesson::read(&desk, path, writes)?.faults();
+        let lesson = Lesson::read(&desk, path, writes)?;
+        let mut found = lesson.faults();
+        if SHOWN_WHOLE.iter().any(|name| path.ends_with(name)) {
+            found.extend(lesson.left_out(&blocks(&lesson.page)));
+        }
         faults.extend(found.into_iter().map(|fault| format!("{}: {fault}", path.display())));
     }
     faults.extend(readme_faults(&desk, directory)?);
@@ -85,6 +91,19 @@ impl Lesson {
         self.script.lines().filter(|line| is_command(line)).count()
     }
 
+    /// What is typed in these blocks has to be the script, line by line, but for its comments.
+    fn left_out(&self, blocks: &[Vec<&str>]) -> Option<String> {
+        let mut typed = blocks.iter().flatten().filter_map(|line| line.strip_prefix("> "));
+        let mut script = self.script.lines().filter(|line| !line.is_empty() && !line.starts_with('#'));
+        loop {
+            match (typed.next(), script.next()) {
+                (None, None) => return None,
+                (one, other) if one == other => {}
+                (one, other) => return Some(format!("the page has typed {one:?}, and the script {other:?}")),
+            }
+        }
+    }
+
     /// After `> ` stands a line of the script, and below it, if anything, its whole answer; other lines are of the transcript.
     fn block_faults(&self, block: &[&str]) -> Vec<String> {
         let answers = self.answers();
@@ -148,7 +167,7 @@ fn readme_faults(desk: &Program, directory: &Path) -> Result<Vec<String>> {
     if shown.is_empty() {
         return Ok(vec!["README.md shows nothing of lessons/readme".to_string()]);
     }
-    let faults = shown.iter().flat_map(|block| lesson.block_faults(block));
+    let faults = shown.iter().flat_map(|block| lesson.block_faults(block)).chain(lesson.left_out(&shown));
     Ok(faults.map(|fault| format!("README.md: {fault}")).collect())
 }
 

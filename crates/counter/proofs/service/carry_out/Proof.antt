@@ -12,7 +12,7 @@ use Rattle.counter.proofs.service.carry_out.Statement.{statement}
 use Rattle.counter.proofs.service.carry_out.Tie as tie
 
 abbrev Inv-loop : tie.InvT-loop
-Inv-loop speaks piece table₀ out₀ kept₀ ends₀ paper₀ d₀ at₀ table out kept ends paper d at = 
+Inv-loop speaks piece table₀ out₀ kept₀ ends₀ paper₀ d₀ at₀ table out kept ends paper d at =
     (length table ≡ length table₀)
     × (length out ≡ length out₀)
     × (length kept ≡ length kept₀)

@@ -5,7 +5,7 @@ use Rattle.counter.proofs.service.give.Statement.{statement}
 use Rattle.counter.proofs.service.give.Tie as tie
 
 returns : tie.Need-returns
-returns c = 
+returns c =
     λ (t : Bytes). by-answer _ _ _ _ _ _ _ _ _ _
     (c .before .before .before .before .before .before .before .before .before .before .before .before .before .one-more .ensures)
     (c .before .before .before .before .before .before .before .before .before .before .before .put-reply .ensures)

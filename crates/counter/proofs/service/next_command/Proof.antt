@@ -5,14 +5,14 @@ use Rattle.counter.proofs.service.next_command.Statement.{statement}
 use Rattle.counter.proofs.service.next_command.Tie as tie
 
 returns : tie.Need-returns
-returns c = 
+returns c =
     by-whole _ _ _ _ _ _ _ _ _ _ (sym (c .before .before .before .before .before .before .before .before .before .before .before .before .before .before .before .before .before .before .before .before .before .before .field-at .ensures) ∙ c .before .before .before .before .before .before .before .before .before .before .before .before .before .before .before .before .before .before .before .before .next .given .1)
     _ (c .before .before .before .before .before .before .before .before .before .before .before .before .before .before .before .before .value-at .ensures)
     _ (c .before .before .before .before .before .before .before .before .before .before .before .before .before .before .before .answer-to .ensures)
     (c .before .before .before .before .before .before .give .ensures _)
 
 returns-2 : tie.Need-returns-2
-returns-2 c = 
+returns-2 c =
     by-cut _ _ _ _ _ _ _ _ _ (sym (c .before .before .before .before .before .before .before .before .before .before .before .before .before .before .before .field-at .ensures) ∙ c .before .before .before .before .before .before .before .before .before .before .before .before .before .next2 .given .1)
     _ (c .before .before .before .before .before .before .before .before .before .before .before .refused .ensures)
     (c .before .before .before .before .before .before .give2 .ensures _)
