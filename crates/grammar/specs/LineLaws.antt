@@ -1,0 +1,381 @@
+-- The reader's next word and the grammar's: what stands at a place of a line.
+use mathlib.Core.Path.{_≡_, refl, sym, ap, ap₂, _∙_, subst}
+use mathlib.Core.Bool.{Bool, true, false, cond, not, false≢true, true≢false}
+use mathlib.Core.List.{List, [], _∷_, _++_, append-assoc, nil≢cons}
+use Prim.Native.Nat.{ℕ, zero, suc, _+_, _-_, _≤_, _<_}
+use Prim.Native.Char.{code}
+use native.Mathlib.Omega.{arith}
+use lib.Dec.{eqb, ltb, leb}
+use lib.ListN.{length, getD, take, drop, length-append, length-drop, take-append-drop}
+use lib.Seq.{drop-cons, drop-drop, take-at, drop-at, getD-drop}
+use borrow.Author.Tests.{eqb-true, eqb-false, eq-eqb, ne-eqb, ltb-true, ltb-false, le-leb, lt-leb, lt-ltb, le-ltb, not-true, not-false}
+use Rattle.ground.specs.Search.{byTest}
+use Rattle.stream.specs.Fields.{part}
+use Rattle.words.specs.declared.Class.{Class}
+use Rattle.words.specs.declared.Class.the-variants.{Blank, Plain, Text, Digit, Hex}
+use Rattle.words.specs.declared.Expected.{Expected}
+use Rattle.words.specs.declared.Expected.the-variants.{ClosingQuote, SpaceAfterQuote}
+use Rattle.words.specs.declared.Word.{Word}
+use Rattle.words.specs.declared.Word.the-variants.{PlainWord, TextWord, Broken, NoWord}
+use Rattle.words.specs.Letters.{blankLetter, isIn, front}
+use Rattle.words.specs.Split.{stops, textAt, startsAt, wordAt}
+use Rattle.reader.specs.Command.{after}
+use Rattle.grammar.specs.Lines.{every, Piece, plain, text, spelled, formed, stopped, comment, Begins, Wordless, Lines}
+
+-- ---- tests
+
+pub both : (b c : Bool) → cond b c false ≡ true → (b ≡ true) × (c ≡ true)
+both true c e = (refl, e)
+both false c e = absurd (false≢true e)
+
+pub second : (b c : Bool) → cond b false c ≡ true → (b ≡ false) × (c ≡ true)
+second true c e = absurd (false≢true e)
+second false c e = (refl, e)
+
+-- ---- runs of one class
+
+module _ (k : Class) where
+  -- a run goes on over letters of the class
+  pub front-over : (b r : List ℕ) → every k b ≡ true → front k (b ++ r) ≡ length b + front k r
+  unfolding every front
+  front-over [] r h = omega arith
+  front-over (c ∷ cs) r h =
+      byTest (isIn k c)
+      (λ e. let i = front-over cs r (rw e at h) in rw e (omega arith))
+      (λ e. absurd (false≢true (rw e at h)))
+
+  pub front-is : (b r : List ℕ) → every k b ≡ true → front k r ≡ 0 → front k (b ++ r) ≡ length b
+  front-is b r h e = let f = front-over b r h in omega arith
+
+  pub front-every : (l : List ℕ) → every k (take (front k l) l) ≡ true
+  unfolding every front
+  front-every [] = refl
+  front-every (c ∷ cs) =
+      let n : 1 + front k cs ≡ suc (front k cs) = omega arith in
+      byTest (isIn k c) (λ e. rw (e, n, e) (front-every cs)) (λ e. rw e)
+
+  pub front-after : (l : List ℕ) → front k (drop (front k l) l) ≡ 0
+  unfolding front
+  front-after [] = refl
+  front-after (c ∷ cs) =
+      let n : 1 + front k cs ≡ suc (front k cs) = omega arith in
+      byTest (isIn k c) (λ e. rw (e, n) (front-after cs)) (λ e. rw (e, e))
+
+  -- a word's letters are all of the class exactly where the run from its start does not end within it
+  pub front-within : (w r : List ℕ) → ltb (front k (w ++ r)) (length w) ≡ not (every k w)
+  unfolding every front
+  front-within [] r = le-ltb (front k r) 0 (omega arith)
+  front-within (c ∷ cs) r =
+      byTest (isIn k c)
+      (λ e. rw e (one-more (front k (cs ++ r)) (length cs) ∙ front-within cs r))
+      (λ e. rw e (lt-ltb 0 (suc (length cs)) (omega arith)))
+    where
+      one-more : (m n : ℕ) → ltb (1 + m) (suc n) ≡ ltb m n
+      one-more m n = byTest (ltb m n) (λ e. let h = ltb-true m n e in lt-ltb (1 + m) (suc n) (omega arith) ∙ sym e) (λ e. let h = ltb-false m n e in le-ltb (1 + m) (suc n) (omega arith) ∙ sym e)
+
+-- no plain letter follows: a blank letter, `#` or the end
+stopped-is : (r : List ℕ) → eqb (front Plain r) 0 ≡ stopped r
+unfolding front isIn stopped
+stopped-is [] = refl
+stopped-is (c ∷ cs) =
+    byTest (blankLetter c)
+    (λ e. rw e)
+    (λ e. byTest (eqb c (code "#")) (λ h. rw (e, h)) (λ h. rw (e, h) (ne-eqb (1 + front Plain cs) 0 (λ q. omega arith))))
+
+pub stopped-front : (r : List ℕ) → stopped r ≡ true → front Plain r ≡ 0
+stopped-front r h = eqb-true (front Plain r) 0 (stopped-is r ∙ h)
+
+pub front-stopped : (r : List ℕ) → front Plain r ≡ 0 → stopped r ≡ true
+front-stopped r h = sym (stopped-is r) ∙ eq-eqb (front Plain r) 0 h
+
+-- ---- a letter at a place
+
+module _ (l : List ℕ) (s c : ℕ) (cs : List ℕ) (h : drop s l ≡ c ∷ cs) where
+  pub letter-within : s < length l
+  letter-within = omega (arith, sym (length-drop s l) ∙ ap length h)
+
+  pub letter-there : getD l s 0 ≡ c
+  letter-there = ap (λ (n : ℕ). getD l n 0) (omega arith) ∙ sym (getD-drop s l 0 0) ∙ ap (λ (r : List ℕ). getD r 0 0) h
+
+  pub letter-after : drop (s + 1) l ≡ cs
+  letter-after = sym (drop-drop 1 s l) ∙ ap (drop 1) h
+
+pub nothing-there : (l : List ℕ) (s : ℕ) → drop s l ≡ [] → length l ≤ s
+nothing-there l s h = omega (arith, sym (length-drop s l) ∙ ap length h)
+
+-- a part of a line, and what follows it
+module _ (l : List ℕ) (s : ℕ) (w r : List ℕ) (h : drop s l ≡ w ++ r) where
+  pub part-there : part s (s + length w) l ≡ w
+  part-there = let n : s + length w - s ≡ length w = omega arith in rw (n, h) (take-at w r (length w) refl)
+
+  pub rest-there : drop (s + length w) l ≡ r
+  rest-there = sym (drop-drop (length w) s l) ∙ ap (drop (length w)) h ∙ drop-at w r (length w) refl
+
+-- ---- the grammar's word, as the reader's
+
+-- a word that starts at s, as the reader says it
+abbrev pub wordFrom : ℕ → Piece → Word
+wordFrom s (plain w) = PlainWord s (s + length w)
+wordFrom s (text w) = TextWord (s + 1) (s + 1 + length w)
+
+-- a text of n letters; after its quote come m letters of a plain word
+text-by : (l : List ℕ) (s n m : ℕ) → front Text (drop s l) ≡ n → front Plain (drop (s + n + 1) l) ≡ m
+    → textAt l s ≡ cond (leb (length l) (s + n)) (Broken (s + n) ClosingQuote) (cond (eqb (s + n + 1 + m) (s + n + 1)) (TextWord s (s + n)) (Broken (s + n + 1) SpaceAfterQuote))
+unfolding textAt stops
+text-by l s n m e f = rw (e, f)
+
+module _ (l : List ℕ) (s : ℕ) where
+  no-letter : drop s l ≡ [] → startsAt l s ≡ NoWord s
+  unfolding startsAt
+  no-letter h = rw (le-leb (length l) s (nothing-there l s h))
+
+  -- where a letter stands, the letter decides
+  at-letter : (c : ℕ) (cs : List ℕ) → drop s l ≡ c ∷ cs
+      → startsAt l s ≡ cond (eqb c (code "#")) (NoWord s) (cond (eqb c (code "\"")) (textAt l (s + 1)) (PlainWord s (s + front Plain (c ∷ cs))))
+  unfolding startsAt
+  at-letter c cs h = rw (lt-leb (length l) s (letter-within l s c cs h), letter-there l s c cs h, h)
+
+  -- a comment, or the end
+  pub starts-none : (r : List ℕ) → drop s l ≡ r → comment r ≡ true → startsAt l s ≡ NoWord s
+  unfolding comment
+  starts-none [] h e = no-letter h
+  starts-none (c ∷ cs) h e = at-letter c cs h ∙ rw e
+
+  starts-plain : (c : ℕ) (cs r : List ℕ) → drop s l ≡ (c ∷ cs) ++ r → formed (plain (c ∷ cs)) ≡ true → stopped r ≡ true → startsAt l s ≡ PlainWord s (s + suc (length cs))
+  unfolding formed every isIn
+  starts-plain c cs r h f e =
+      let x = second (eqb c (code "\"")) (every Plain (c ∷ cs)) f in
+      let y = both (isIn Plain c) (every Plain cs) (x .1) in
+      let z = second (blankLetter c) (not (eqb c (code "#"))) (y .0) in
+      let n : front Plain (c ∷ (cs ++ r)) ≡ suc (length cs) = front-is Plain (c ∷ cs) r (x .1) (stopped-front r e) in
+      at-letter c (cs ++ r) h ∙ rw (not-true (eqb c (code "#")) (z .1), x .0, n)
+
+  -- the letters of a text and its closing quote, after the opening one
+  inside : (w r : List ℕ) → drop s l ≡ spelled (text w) ++ r → drop (s + 1) l ≡ w ++ (code "\"" ∷ r)
+  inside w r h = letter-after l s (code "\"") ((w ++ (code "\"" ∷ [])) ++ r) h ∙ append-assoc w (code "\"" ∷ []) r
+
+  starts-text : (w r : List ℕ) → drop s l ≡ spelled (text w) ++ r → every Text w ≡ true → stopped r ≡ true → startsAt l s ≡ TextWord (s + 1) (s + 1 + length w)
+  unfolding front isIn
+  starts-text w r h f e =
+      let q = code "\"" in
+      let z = s + 1 + length w in
+      let i : drop (s + 1) l ≡ w ++ (q ∷ r) = inside w r h in
+      let n : front Text (drop (s + 1) l) ≡ length w = ap (front Text) i ∙ front-is Text w (q ∷ r) f refl in
+      let t : drop z l ≡ q ∷ r = rest-there l (s + 1) w (q ∷ r) i in
+      let m : front Plain (drop (z + 1) l) ≡ 0 = ap (front Plain) (letter-after l z q r t) ∙ stopped-front r e in
+      at-letter q ((w ++ (q ∷ [])) ++ r) h
+      ∙ text-by l (s + 1) (length w) 0 n m
+      ∙ rw (lt-leb (length l) z (letter-within l z q r t), eq-eqb (z + 1 + 0) (z + 1) (omega arith))
+
+  pub starts-word : (p : Piece) (r : List ℕ) → drop s l ≡ spelled p ++ r → formed p ≡ true → stopped r ≡ true → startsAt l s ≡ wordFrom s p
+  unfolding formed
+  starts-word (plain []) r h f e = absurd (false≢true f)
+  starts-word (plain (c ∷ cs)) r h f e = starts-plain c cs r h f e
+  starts-word (text w) r h f e = starts-text w r h f e
+
+module _ (l : List ℕ) (at : ℕ) where
+  -- past the blank letters
+  past-blanks : (b r : List ℕ) → drop at l ≡ b ++ r → every Blank b ≡ true → front Blank r ≡ 0 → wordAt l at ≡ startsAt l (at + length b)
+  unfolding wordAt
+  past-blanks b r h f e = rw (ap (front Blank) h ∙ front-is Blank b r f e)
+
+  quote-no-blank : blankLetter (code "\"") ≡ false
+  unfolding blankLetter
+  quote-no-blank = refl
+
+  no-blank : (p : Piece) (r : List ℕ) → formed p ≡ true → front Blank (spelled p ++ r) ≡ 0
+  unfolding formed every isIn front
+  no-blank (plain []) r f = absurd (false≢true f)
+  no-blank (plain (c ∷ cs)) r f =
+      let x = second (eqb c (code "\"")) (every Plain (c ∷ cs)) f in
+      let y = both (isIn Plain c) (every Plain cs) (x .1) in
+      rw (second (blankLetter c) (not (eqb c (code "#"))) (y .0) .0)
+  no-blank (text w) r f = rw quote-no-blank
+
+  no-blank-remark : (r : List ℕ) → comment r ≡ true → front Blank r ≡ 0
+  unfolding comment front isIn blankLetter
+  no-blank-remark [] e = refl
+  no-blank-remark (c ∷ cs) e = rw (eqb-true c (code "#") e)
+
+  pub word-none : (h : Wordless (drop at l)) → wordAt l at ≡ NoWord (at + length (h .blanks))
+  word-none h =
+      past-blanks (h .blanks) (h .rest) (h .whole) (h .blank) (no-blank-remark (h .rest) (h .remark))
+      ∙ starts-none l (at + length (h .blanks)) (h .rest) (rest-there l at (h .blanks) (h .rest) (h .whole)) (h .remark)
+
+-- the reader's word at a place of the line is the word p, with what follows it
+pub record Stands (l : List ℕ) (at : ℕ) (p : Piece) (rest : List ℕ) : Type 0 where
+  pub start : ℕ
+  pub word : wordAt l at ≡ wordFrom start p
+  pub there : drop start l ≡ spelled p ++ rest
+
+pub begins-stands : (l : List ℕ) (at : ℕ) (p : Piece) (rest : List ℕ) → Begins p (drop at l) rest → Stands l at p rest
+begins-stands l at p rest h =
+    let t : drop (at + length (h .blanks)) l ≡ spelled p ++ rest = rest-there l at (h .blanks) (spelled p ++ rest) (h .whole) in
+    record {
+      start = at + length (h .blanks);
+      word = past-blanks l at (h .blanks) (spelled p ++ rest) (h .whole) (h .blank) (no-blank l at p rest (h .word)) ∙ starts-word l (at + length (h .blanks)) p rest t (h .word) (h .stop);
+      there = t;
+    }
+
+-- ---- the reader's word, as the grammar's
+
+-- what stands next: no word, a word, or a text that is not as it should be
+pub data Next (l : List ℕ) (at : ℕ) : Type 0 where
+  none : Wordless (drop at l) → Next l at
+  found : (p : Piece) (rest : List ℕ) → Begins p (drop at l) rest → Next l at
+  broken : (b : ℕ) (x : Expected) → wordAt l at ≡ Broken b x → Next l at
+
+front-first : (k : Class) (c : ℕ) (cs : List ℕ) → front k (c ∷ cs) ≡ 0 → isIn k c ≡ false
+unfolding front
+front-first k c cs h = byTest (isIn k c) (λ e. absurd (let z : 1 + front k cs ≡ 0 = rw e at h in omega arith)) (λ e. e)
+
+text-letter : (c : ℕ) → isIn Text c ≡ false → not (eqb c (code "\"")) ≡ false
+unfolding isIn
+text-letter c e = e
+
+text-formed : (w : List ℕ) → every Text w ≡ true → formed (text w) ≡ true
+unfolding formed
+text-formed w e = e
+
+-- after blank letters b, the letter c, which is not blank
+module _ (l : List ℕ) (at : ℕ) (b : List ℕ) (c : ℕ) (cs : List ℕ) (h : drop at l ≡ b ++ (c ∷ cs)) (f : every Blank b ≡ true) (e : front Blank (c ∷ cs) ≡ 0) where
+  next-plain : eqb c (code "#") ≡ false → eqb c (code "\"") ≡ false → Next l at
+  unfolding formed every isIn
+  next-plain x y =
+      let n = front Plain cs in
+      let w = take n cs in
+      let rest = drop n cs in
+      let z : blankLetter c ≡ false = front-first Blank c cs e in
+      let g : every Plain (c ∷ w) ≡ true = rw (z, x) (front-every Plain cs) in
+      found (plain (c ∷ w)) rest
+      (record {
+        blanks = b;
+        whole = h ∙ ap (λ (r : List ℕ). b ++ (c ∷ r)) (sym (take-append-drop n cs));
+        blank = f;
+        word = rw y g;
+        stop = front-stopped rest (front-after Plain cs);
+      })
+
+  start : ℕ
+  start = at + length b
+
+  -- the letters of a text
+  letters-there : drop (start + 1) l ≡ cs
+  unfolding start
+  letters-there = letter-after l start c cs (rest-there l at b (c ∷ cs) h)
+
+  text-there : eqb c (code "\"") ≡ true → wordAt l at ≡ textAt l (start + 1)
+  unfolding start
+  text-there x = past-blanks l at b (c ∷ cs) h f e ∙ at-letter l start c cs (rest-there l at b (c ∷ cs) h) ∙ rw (eqb-true c (code "\"") x)
+
+  -- what follows the letters of the text
+  text-rest : (r : List ℕ) → drop (front Text cs) cs ≡ r → drop (start + 1 + front Text cs) l ≡ r
+  text-rest r t = sym (drop-drop (front Text cs) (start + 1) l) ∙ ap (drop (front Text cs)) letters-there ∙ t
+
+  text-read : (m : ℕ) → front Plain (drop (start + 1 + front Text cs + 1) l) ≡ m → textAt l (start + 1)
+      ≡ cond (leb (length l) (start + 1 + front Text cs)) (Broken (start + 1 + front Text cs) ClosingQuote)
+      (cond (eqb (start + 1 + front Text cs + 1 + m) (start + 1 + front Text cs + 1)) (TextWord (start + 1) (start + 1 + front Text cs)) (Broken (start + 1 + front Text cs + 1) SpaceAfterQuote))
+  text-read m g = text-by l (start + 1) (front Text cs) m (ap (front Text) letters-there) g
+
+  not-closed : drop (front Text cs) cs ≡ [] → textAt l (start + 1) ≡ Broken (start + 1 + front Text cs) ClosingQuote
+  not-closed t =
+      text-read (front Plain (drop (start + 1 + front Text cs + 1) l)) refl
+      ∙ rw (le-leb (length l) (start + 1 + front Text cs) (nothing-there l (start + 1 + front Text cs) (text-rest [] t)))
+
+  not-stopped : (x : ℕ) (rest : List ℕ) → drop (front Text cs) cs ≡ x ∷ rest → stopped rest ≡ false → textAt l (start + 1) ≡ Broken (start + 1 + front Text cs + 1) SpaceAfterQuote
+  not-stopped x rest t g =
+      let z = start + 1 + front Text cs in
+      let m : front Plain (drop (z + 1) l) ≡ front Plain rest = ap (front Plain) (letter-after l z x rest (text-rest (x ∷ rest) t)) in
+      let some : front Plain rest ≡ 0 → ⊥ = λ n. true≢false (sym (front-stopped rest n) ∙ g) in
+      text-read (front Plain rest) m
+      ∙ rw (lt-leb (length l) z (letter-within l z x rest (text-rest (x ∷ rest) t)), ne-eqb (z + 1 + front Plain rest) (z + 1) (λ n. some (omega arith)))
+
+  next-text : (r : List ℕ) → drop (front Text cs) cs ≡ r → eqb c (code "\"") ≡ true → Next l at
+  next-text [] t x = broken (start + 1 + front Text cs) ClosingQuote (text-there x ∙ not-closed t)
+  next-text (y ∷ rest) t x = byTest (stopped rest) (λ g. closed g) (λ g. broken (start + 1 + front Text cs + 1) SpaceAfterQuote (text-there x ∙ not-stopped y rest t g))
+    where
+      quoted : y ≡ code "\""
+      quoted = eqb-true y (code "\"") (not-false (eqb y (code "\"")) (text-letter y (front-first Text y rest (ap (front Text) (sym t) ∙ front-after Text cs))))
+
+      w : List ℕ
+      w = take (front Text cs) cs
+
+      closed : stopped rest ≡ true → Next l at
+      closed g =
+          found (text w) rest
+          (record {
+            blanks = b;
+            whole = h ∙ ap₂ (λ (m : ℕ) (r : List ℕ). b ++ (m ∷ r)) (eqb-true c (code "\"") x)
+                (sym (take-append-drop (front Text cs) cs) ∙ ap (λ (r : List ℕ). w ++ r) t ∙ ap (λ (m : ℕ). w ++ (m ∷ rest)) quoted ∙ sym (append-assoc w (code "\"" ∷ []) rest));
+            blank = f;
+            word = text-formed w (front-every Text cs);
+            stop = g;
+          })
+
+-- after blank letters
+next-after : (l : List ℕ) (at : ℕ) (b r : List ℕ) → drop at l ≡ b ++ r → every Blank b ≡ true → front Blank r ≡ 0 → Next l at
+unfolding comment
+next-after l at b [] h f e = none (record { blanks = b; rest = []; whole = h; blank = f; remark = refl })
+next-after l at b (c ∷ cs) h f e =
+    byTest (eqb c (code "#"))
+    (λ x. none (record { blanks = b; rest = c ∷ cs; whole = h; blank = f; remark = x }))
+    (λ x. byTest (eqb c (code "\"")) (λ y. next-text l at b c cs h f e (drop (front Text cs) cs) refl y) (λ y. next-plain l at b c cs h f e x y))
+
+pub look : (l : List ℕ) (at : ℕ) → Next l at
+look l at =
+    let d = drop at l in
+    let n = front Blank d in
+    next-after l at (take n d) (drop n d) (sym (take-append-drop n d)) (front-every Blank d) (front-after Blank d)
+
+-- ---- a word's letters, and where the line goes on
+
+-- the letters of the reader's word
+abbrev pub pieceOf : List ℕ → Word → Piece
+pieceOf l (PlainWord a z) = plain (part a z l)
+pieceOf l (TextWord a z) = text (part a z l)
+pieceOf l (Broken b x) = plain []
+pieceOf l (NoWord b) = plain []
+
+abbrev pub isWord : Word → Bool
+isWord (PlainWord a z) = true
+isWord (TextWord a z) = true
+isWord (Broken b x) = false
+isWord (NoWord b) = false
+
+pub piece-there : (l : List ℕ) (s : ℕ) (p : Piece) (r : List ℕ) → drop s l ≡ spelled p ++ r → pieceOf l (wordFrom s p) ≡ p
+piece-there l s (plain w) r h = ap plain (part-there l s w r h)
+piece-there l s (text w) r h = ap text (part-there l (s + 1) w (code "\"" ∷ r) (inside l s w r h))
+
+pub after-there : (l : List ℕ) (s : ℕ) (p : Piece) (r : List ℕ) → drop s l ≡ spelled p ++ r → drop (after (length l) (wordFrom s p)) l ≡ r
+unfolding after
+after-there l s (plain w) r h = rest-there l s w r h
+after-there l s (text w) r h =
+    let z = s + 1 + length w in
+    let t : drop z l ≡ code "\"" ∷ r = rest-there l (s + 1) w (code "\"" ∷ r) (inside l s w r h) in
+    rw (lt-ltb z (length l) (letter-within l z (code "\"") r t)) (letter-after l z (code "\"") r t)
+
+pub is-word : (s : ℕ) (p : Piece) → isWord (wordFrom s p) ≡ true
+is-word s (plain w) = refl
+is-word s (text w) = refl
+
+-- ---- a line has one splitting
+
+module _ (l : List ℕ) where
+  begins-piece : (p : Piece) (rest : List ℕ) → Begins p l rest → (pieceOf l (wordAt l 0) ≡ p) × (drop (after (length l) (wordAt l 0)) l ≡ rest) × (isWord (wordAt l 0) ≡ true)
+  begins-piece p rest h =
+      let k = begins-stands l 0 p rest h in
+      (ap (pieceOf l) (k .word) ∙ piece-there l (k .start) p rest (k .there),
+      ap (λ (v : Word). drop (after (length l) v) l) (k .word) ∙ after-there l (k .start) p rest (k .there),
+      ap isWord (k .word) ∙ is-word (k .start) p)
+
+  not-both : (p : Piece) (rest : List ℕ) → Begins p l rest → Wordless l → ⊥
+  not-both p rest h k = true≢false (sym (begins-piece p rest h .2) ∙ ap isWord (word-none l 0 k))
+
+pub one-splitting : (ws vs : List Piece) (l : List ℕ) → Lines ws l → Lines vs l → ws ≡ vs
+one-splitting [] [] l h k = refl
+one-splitting [] (v ∷ vs) l h k = absurd (not-both l v (k .0) (k .1) h)
+one-splitting (w ∷ ws) [] l h k = absurd (not-both l w (h .0) (h .1) k)
+one-splitting (w ∷ ws) (v ∷ vs) l h k =
+    let x = begins-piece l w (h .0) (h .1) in
+    let y = begins-piece l v (k .0) (k .1) in
+    ap₂ (λ (p : Piece) (ps : List Piece). p ∷ ps) (sym (x .0) ∙ y .0) (one-splitting ws vs (h .0) (h .2) (subst (Lines vs) (sym (y .1) ∙ x .1) (k .2)))
