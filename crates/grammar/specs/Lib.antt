@@ -1,2 +1,4 @@
 pub mod Lines
 pub mod LineLaws
+pub mod Means
+pub mod MeansLaws

@@ -151,7 +151,7 @@ module _ (l : List ℕ) (s : ℕ) where
       at-letter c (cs ++ r) h ∙ rw (not-true (eqb c (code "#")) (z .1), x .0, n)
 
   -- the letters of a text and its closing quote, after the opening one
-  inside : (w r : List ℕ) → drop s l ≡ spelled (text w) ++ r → drop (s + 1) l ≡ w ++ (code "\"" ∷ r)
+  pub inside : (w r : List ℕ) → drop s l ≡ spelled (text w) ++ r → drop (s + 1) l ≡ w ++ (code "\"" ∷ r)
   inside w r h = letter-after l s (code "\"") ((w ++ (code "\"" ∷ [])) ++ r) h ∙ append-assoc w (code "\"" ∷ []) r
 
   starts-text : (w r : List ℕ) → drop s l ≡ spelled (text w) ++ r → every Text w ≡ true → stopped r ≡ true → startsAt l s ≡ TextWord (s + 1) (s + 1 + length w)
