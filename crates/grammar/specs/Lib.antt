@@ -5,3 +5,4 @@ pub mod MeansLaws
 pub mod Says
 pub mod WordLaws
 pub mod CommandLaws
+pub mod NameLaws
