@@ -6,3 +6,4 @@ pub mod Says
 pub mod WordLaws
 pub mod CommandLaws
 pub mod NameLaws
+pub mod RawLaws

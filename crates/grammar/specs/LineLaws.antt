@@ -368,7 +368,7 @@ module _ (l : List ℕ) where
       ap (λ (v : Word). drop (after (length l) v) l) (k .word) ∙ after-there l (k .start) p rest (k .there),
       ap isWord (k .word) ∙ is-word (k .start) p)
 
-  not-both : (p : Piece) (rest : List ℕ) → Begins p l rest → Wordless l → ⊥
+  pub not-both : (p : Piece) (rest : List ℕ) → Begins p l rest → Wordless l → ⊥
   not-both p rest h k = true≢false (sym (begins-piece p rest h .2) ∙ ap isWord (word-none l 0 k))
 
 pub one-splitting : (ws vs : List Piece) (l : List ℕ) → Lines ws l → Lines vs l → ws ≡ vs

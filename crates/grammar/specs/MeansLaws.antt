@@ -60,7 +60,7 @@ wrong-fits at x = refl
 
 module _ (l : List ℕ) (s : ℕ) (w r : List ℕ) (h : drop s l ≡ w ++ r) where
   -- whether all its letters are of a class
-  run-ends : (k : Class) → ltb (s + front k (drop s l)) (s + length w) ≡ not (every k w)
+  pub run-ends : (k : Class) → ltb (s + front k (drop s l)) (s + length w) ≡ not (every k w)
   run-ends k = shifted (front k (drop s l)) (length w) ∙ ap (λ (x : List ℕ). ltb (front k x) (length w)) h ∙ front-within k w r
     where
       shifted : (m n : ℕ) → ltb (s + m) (s + n) ≡ ltb m n
