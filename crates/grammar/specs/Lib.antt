@@ -7,3 +7,4 @@ pub mod WordLaws
 pub mod CommandLaws
 pub mod NameLaws
 pub mod RawLaws
+pub mod Exact
