@@ -8,3 +8,4 @@ pub mod CommandLaws
 pub mod NameLaws
 pub mod RawLaws
 pub mod Exact
+pub mod Printed
