@@ -1,14 +1,11 @@
 use Rattle.reader.specs.Line.{soFar}
 use borrow.Author.Needs.{needs}
-use Rattle.words.proofs.begin.Statement.{statement}
+use Rattle.reader.proofs.so_far.Statement.{statement}
 use Rattle.reader.proofs.so_far.Tie as tie
-
-blank-requires : tie.Need-blank-requires
-blank-requires c κs = search needs
 
 returns : tie.Need-returns
 unfolding soFar
-returns c = simp (c .blank .ensures)
+returns c = simp (c .request-of .ensures)
 
-pub begin-spec : {M : Type 1} → statement M
-begin-spec = tie.close (tie.spec blank-requires returns)
+pub so-far-spec : {M : Type 1} → statement M
+so-far-spec = tie.close (tie.spec (λ c κs. search needs) returns)

@@ -1,14 +1,11 @@
 use Rattle.values.specs.Values.{wrong}
 use borrow.Author.Needs.{needs}
-use Rattle.words.proofs.values.wrong.Statement.{statement}
+use Rattle.values.proofs.wrong.Statement.{statement}
 use Rattle.values.proofs.wrong.Tie as tie
-
-source-requires : tie.Need-source-requires
-source-requires c κs = search needs
 
 returns : tie.Need-returns
 unfolding wrong
 returns c = simp (c .source .ensures)
 
 pub wrong-spec : {M : Type 1} → statement M
-wrong-spec = tie.close (tie.spec source-requires returns)
+wrong-spec = tie.close (tie.spec (λ c κs. search needs) returns)

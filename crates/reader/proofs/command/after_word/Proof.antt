@@ -1,23 +1,8 @@
 use borrow.Author.Tests.{le-ltb, lt-ltb}
 use Rattle.reader.specs.Command.{after}
 use borrow.Author.Needs.{needs}
-use Rattle.words.proofs.reader.after_word.Statement.{statement}
+use Rattle.reader.proofs.command.after_word.Statement.{statement}
 use Rattle.reader.proofs.command.after_word.Tie as tie
-
-enum-known-word : tie.Need-enum-known-word
-enum-known-word c = search needs
-
-enum-known-word-2 : tie.Need-enum-known-word-2
-enum-known-word-2 c = search needs
-
-add-result : tie.Need-add-result
-add-result c = search needs
-
-enum-told : tie.Need-enum-told
-enum-told c = search needs
-
-enum-known-word-3 : tie.Need-enum-known-word-3
-enum-known-word-3 c = search needs
 
 returns : tie.Need-returns
 unfolding after
@@ -43,11 +28,11 @@ pub after-word-spec : {M : Type 1} → statement M
 after-word-spec =
     tie.close
     (tie.spec
-    enum-known-word
-    enum-known-word-2
-    add-result
-    enum-told
-    enum-known-word-3
+    (λ c. search needs)
+    (λ c. search needs)
+    (λ c. search needs)
+    (λ c. search needs)
+    (λ c. search needs)
     returns
     returns-2
     returns-3

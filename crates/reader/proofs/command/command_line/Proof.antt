@@ -13,7 +13,7 @@ use Rattle.values.specs.declared.Source.{Source}
 use Rattle.values.specs.Sources.{source}
 use Rattle.reader.specs.Line.{soFar}
 use Rattle.reader.specs.Command.{readWords, endedLine, commandLine, words-step, words-end}
-use Rattle.words.proofs.reader.command_line.Statement.{statement}
+use Rattle.reader.proofs.command.command_line.Statement.{statement}
 use Rattle.reader.proofs.command.command_line.Tie as tie
 
 abbrev Inv-loop : tie.InvT-loop
@@ -21,15 +21,6 @@ Inv-loop tag line kept ends at fields r₀ i₀ r i = (length fields ≡ 5) × (
 
 abbrev μ-loop : tie.MeasureT-loop
 μ-loop tag line kept ends at fields r₀ i₀ r i = 5 - i
-
-form-of-requires : tie.Need-form-of-requires Inv-loop μ-loop
-form-of-requires c κs = search needs
-
-source-requires : tie.Need-source-requires Inv-loop μ-loop
-source-requires c κs = search needs
-
-begin-requires : tie.Need-begin-requires Inv-loop μ-loop
-begin-requires c κs = search needs
 
 -- what the loop has read is what the definition reads
 all-read : (l kept ends : List ℕ) (t at i : ℕ) (f : Form) (b : Source) (r₀ r : Line) → length (f .arguments) ≤ i → readWords l kept ends r (drop i (f .arguments)) ≡ readWords l kept ends r₀ (f .arguments)
@@ -43,15 +34,6 @@ all-read l kept ends t at i f b r₀ r h inv s e g =
 loop-holds : tie.Need-loop-holds Inv-loop μ-loop
 loop-holds c = (search needs, search needs, refl)
 
-array-read-read-word : tie.Need-array-read-read-word Inv-loop μ-loop
-array-read-read-word c = search needs
-
-read-word-requires : tie.Need-read-word-requires Inv-loop μ-loop
-read-word-requires c κs = search needs
-
-add-i : tie.Need-add-i Inv-loop μ-loop
-add-i c = search needs
-
 loop-less : tie.Need-loop-less Inv-loop μ-loop
 loop-less c = omega arith
 
@@ -60,13 +42,10 @@ loop-again c =
     let h : c .before .before .loop .i < length (c .before .before .before .before .before .before .form-of .result .arguments) = omega (arith, c .before .before .loop .inv .0) in
     (c .before .before .loop .inv .0, omega arith, rw (c .read-word .ensures) (sym (words-step _ _ _ _ _ _ h) ∙ c .before .before .loop .inv .2))
 
-end-line-requires : tie.Need-end-line-requires Inv-loop μ-loop
-end-line-requires c κs = search needs
-
 returns : tie.Need-returns Inv-loop μ-loop
 returns c = 
     let h : length (c .before .before .before .before .before .before .form-of .result .arguments) ≤ c .before .before .loop .i = omega (arith, c .before .before .loop .inv .0) in
-    c .end-line .ensures ∙ all-read _ _ _ _ _ _ _ _ _ _ h (c .before .before .loop .inv .2) (c .before .before .before .before .source .ensures) (c .before .before .before .begin .ensures) (c .before .before .before .before .before .before .form-of .ensures)
+    c .end-line .ensures ∙ all-read _ _ _ _ _ _ _ _ _ _ h (c .before .before .loop .inv .2) (c .before .before .before .before .source .ensures) (c .before .before .before .so-far .ensures) (c .before .before .before .before .before .before .form-of .ensures)
 
 pub command-line-spec : {M : Type 1} → statement M
 command-line-spec =
@@ -74,14 +53,14 @@ command-line-spec =
     (tie.spec
     Inv-loop
     μ-loop
-    form-of-requires
-    source-requires
-    begin-requires
+    (λ c κs. search needs)
+    (λ c κs. search needs)
+    (λ c κs. search needs)
     loop-holds
-    array-read-read-word
-    read-word-requires
-    add-i
+    (λ c. search needs)
+    (λ c κs. search needs)
+    (λ c. search needs)
     loop-less
     loop-again
-    end-line-requires
+    (λ c κs. search needs)
     returns)

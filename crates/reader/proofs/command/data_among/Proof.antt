@@ -1,5 +1,5 @@
 use borrow.Author.Tests.{eq-eqb, ne-eqb}
-use Rattle.words.proofs.reader.data_among.Statement.{statement}
+use Rattle.reader.proofs.command.data_among.Statement.{statement}
 use Rattle.reader.proofs.command.data_among.Tie as tie
 
 returns : tie.Need-returns

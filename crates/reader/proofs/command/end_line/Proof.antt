@@ -1,14 +1,8 @@
 use mathlib.Core.Path.{sym}
 use Rattle.reader.specs.Command.{endedLine}
 use borrow.Author.Needs.{needs}
-use Rattle.words.proofs.reader.end_line.Statement.{statement}
+use Rattle.reader.proofs.command.end_line.Statement.{statement}
 use Rattle.reader.proofs.command.end_line.Tie as tie
-
-word-at-requires : tie.Need-word-at-requires
-word-at-requires c κs = search needs
-
-nothing-else-requires : tie.Need-nothing-else-requires
-nothing-else-requires c κs = search needs
 
 returns : tie.Need-returns
 unfolding endedLine
@@ -19,4 +13,4 @@ unfolding endedLine
 returns-2 c = simp (c .if1 .left)
 
 pub end-line-spec : {M : Type 1} → statement M
-end-line-spec = tie.close (tie.spec word-at-requires nothing-else-requires returns returns-2)
+end-line-spec = tie.close (tie.spec (λ c κs. search needs) (λ c κs. search needs) returns returns-2)

@@ -2,14 +2,8 @@ use mathlib.Core.Path.{sym}
 use borrow.Author.Tests.{eq-eqb, ne-eqb}
 use Rattle.reader.specs.Command.{readWord}
 use borrow.Author.Needs.{needs}
-use Rattle.words.proofs.reader.read_word.Statement.{statement}
+use Rattle.reader.proofs.command.read_word.Statement.{statement}
 use Rattle.reader.proofs.command.read_word.Tie as tie
-
-word-at-requires : tie.Need-word-at-requires
-word-at-requires c κs = search needs
-
-take-word-requires : tie.Need-take-word-requires
-take-word-requires c κs = search needs
 
 returns : tie.Need-returns
 unfolding readWord
@@ -25,4 +19,4 @@ returns-3 c = simp (c .if2 .left, ne-eqb _ _ (c .before .if1 .left))
 
 pub read-word-spec : {M : Type 1} → statement M
 read-word-spec =
-    tie.close (tie.spec word-at-requires take-word-requires returns returns-2 returns-3)
+    tie.close (tie.spec (λ c κs. search needs) (λ c κs. search needs) returns returns-2 returns-3)

@@ -1,16 +1,7 @@
 use Rattle.reader.specs.Command.{tookValue}
 use borrow.Author.Needs.{needs}
-use Rattle.words.proofs.reader.take_value.Statement.{statement}
+use Rattle.reader.proofs.command.take_value.Statement.{statement}
 use Rattle.reader.proofs.command.take_value.Tie as tie
-
-with-value-requires : tie.Need-with-value-requires
-with-value-requires c κs = search needs
-
-data-among-requires : tie.Need-data-among-requires
-data-among-requires c κs = search needs
-
-wrong-line-requires : tie.Need-wrong-line-requires
-wrong-line-requires c κs = search needs
 
 returns : tie.Need-returns
 unfolding tookValue
@@ -23,4 +14,4 @@ returns-2 c = simp (c .wrong-line .ensures, c .before .if1 .left)
 pub take-value-spec : {M : Type 1} → statement M
 take-value-spec =
     tie.close
-    (tie.spec with-value-requires data-among-requires wrong-line-requires returns returns-2)
+    (tie.spec (λ c κs. search needs) (λ c κs. search needs) (λ c κs. search needs) returns returns-2)

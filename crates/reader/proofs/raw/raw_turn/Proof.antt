@@ -1,14 +1,8 @@
 use mathlib.Core.Path.{sym}
 use Rattle.reader.specs.Raw.{rawTurn}
 use borrow.Author.Needs.{needs}
-use Rattle.words.proofs.raw.raw_turn.Statement.{statement}
+use Rattle.reader.proofs.raw.raw_turn.Statement.{statement}
 use Rattle.reader.proofs.raw.raw_turn.Tie as tie
-
-word-at-requires : tie.Need-word-at-requires
-word-at-requires c κs = search needs
-
-raw-word-requires : tie.Need-raw-word-requires
-raw-word-requires c κs = search needs
 
 returns : tie.Need-returns
 unfolding rawTurn
@@ -19,4 +13,4 @@ unfolding rawTurn
 returns-2 c = simp (c .if1 .left)
 
 pub raw-turn-spec : {M : Type 1} → statement M
-raw-turn-spec = tie.close (tie.spec word-at-requires raw-word-requires returns returns-2)
+raw-turn-spec = tie.close (tie.spec (λ c κs. search needs) (λ c κs. search needs) returns returns-2)

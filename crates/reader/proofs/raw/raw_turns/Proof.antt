@@ -3,7 +3,7 @@ use Prim.Native.Nat.{_<_}
 use native.Mathlib.Omega.{arith}
 use borrow.Author.Needs.{needs}
 use Rattle.reader.specs.Raw.{rawTurns, turns-step, turns-end}
-use Rattle.words.proofs.raw.raw_turns.Statement.{statement}
+use Rattle.reader.proofs.raw.raw_turns.Statement.{statement}
 use Rattle.reader.proofs.raw.raw_turns.Tie as tie
 
 abbrev Inv-loop : tie.InvT-loop
@@ -14,9 +14,6 @@ abbrev μ-loop : tie.MeasureT-loop
 
 loop-holds : tie.Need-loop-holds Inv-loop μ-loop
 loop-holds c = refl
-
-raw-turn-requires : tie.Need-raw-turn-requires Inv-loop μ-loop
-raw-turn-requires c κs = search needs
 
 sub-turns : tie.Need-sub-turns Inv-loop μ-loop
 sub-turns c = omega arith
@@ -37,4 +34,4 @@ returns c =
 pub raw-turns-spec : {M : Type 1} → statement M
 raw-turns-spec =
     tie.close
-    (tie.spec Inv-loop μ-loop loop-holds raw-turn-requires sub-turns loop-less loop-again returns)
+    (tie.spec Inv-loop μ-loop loop-holds (λ c κs. search needs) sub-turns loop-less loop-again returns)

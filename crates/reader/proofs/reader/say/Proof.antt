@@ -1,43 +1,7 @@
 use Rattle.reader.specs.Reader.{saysLine}
 use borrow.Author.Needs.{needs}
-use Rattle.words.proofs.reader.say.Statement.{statement}
+use Rattle.reader.proofs.reader.say.Statement.{statement}
 use Rattle.reader.proofs.reader.say.Tie as tie
-
-enum-told : tie.Need-enum-told
-enum-told c = search needs
-
-alone-requires : tie.Need-alone-requires
-alone-requires c κs = search needs
-
-enum-told-2 : tie.Need-enum-told-2
-enum-told-2 c = search needs
-
-command-line-requires : tie.Need-command-line-requires
-command-line-requires c κs = search needs
-
-enum-told-3 : tie.Need-enum-told-3
-enum-told-3 c = search needs
-
-raw-line-requires : tie.Need-raw-line-requires
-raw-line-requires c κs = search needs
-
-enum-told-4 : tie.Need-enum-told-4
-enum-told-4 c = search needs
-
-alone-requires-2 : tie.Need-alone-requires-2
-alone-requires-2 c κs = search needs
-
-enum-told-5 : tie.Need-enum-told-5
-enum-told-5 c = search needs
-
-alone-requires-3 : tie.Need-alone-requires-3
-alone-requires-3 c κs = search needs
-
-enum-told-6 : tie.Need-enum-told-6
-enum-told-6 c = search needs
-
-alone-requires-4 : tie.Need-alone-requires-4
-alone-requires-4 c κs = search needs
 
 returns : tie.Need-returns
 unfolding saysLine
@@ -67,18 +31,18 @@ pub say-spec : {M : Type 1} → statement M
 say-spec =
     tie.close
     (tie.spec
-    enum-told
-    alone-requires
-    enum-told-2
-    command-line-requires
-    enum-told-3
-    raw-line-requires
-    enum-told-4
-    alone-requires-2
-    enum-told-5
-    alone-requires-3
-    enum-told-6
-    alone-requires-4
+    (λ c. search needs)
+    (λ c κs. search needs)
+    (λ c. search needs)
+    (λ c κs. search needs)
+    (λ c. search needs)
+    (λ c κs. search needs)
+    (λ c. search needs)
+    (λ c κs. search needs)
+    (λ c. search needs)
+    (λ c κs. search needs)
+    (λ c. search needs)
+    (λ c κs. search needs)
     returns
     returns-2
     returns-3

@@ -1,13 +1,7 @@
 use Rattle.reader.specs.Reader.{startedLine}
 use borrow.Author.Needs.{needs}
-use Rattle.words.proofs.reader.started.Statement.{statement}
+use Rattle.reader.proofs.reader.started.Statement.{statement}
 use Rattle.reader.proofs.reader.started.Tie as tie
-
-say-requires : tie.Need-say-requires
-say-requires c κs = search needs
-
-wrong-line-requires : tie.Need-wrong-line-requires
-wrong-line-requires c κs = search needs
 
 returns : tie.Need-returns
 unfolding startedLine
@@ -18,4 +12,4 @@ unfolding startedLine
 returns-2 c = simp (c .wrong-line .ensures, c .before .if1 .left)
 
 pub started-spec : {M : Type 1} → statement M
-started-spec = tie.close (tie.spec say-requires wrong-line-requires returns returns-2)
+started-spec = tie.close (tie.spec (λ c κs. search needs) (λ c κs. search needs) returns returns-2)

@@ -1,7 +1,7 @@
 use mathlib.Core.List.{[], _∷_}
 use Prim.Native.Char.{code}
 use Rattle.printout.specs.Text.{letters}
-use Rattle.talk.specs.Names.{name}
+use Rattle.names.specs.Names.{name}
 use Rattle.talk.specs.Replies.{answer, wordsOf}
 use Rattle.printout.specs.Page.{two}
 use borrow.Author.Needs.{needs}

@@ -1,63 +1,34 @@
-use Prim.Native.Nat.{_+_, _≤_, _<_, _^_}
-use native.Mathlib.Omega.{arith}
-use lib.ListN.{length}
-use Rattle.words.specs.declared.Class.the-variants.{Hex}
-use Rattle.words.specs.Letters.{runEnd, run-within}
 use mathlib.Core.Path.{sym}
 use borrow.Author.Tests.{eq-eqb, le-ltb, lt-ltb, ne-eqb}
 use Rattle.values.specs.Values.{hexBlock}
 use borrow.Author.Needs.{needs}
-use Rattle.words.proofs.values.hex_block.Statement.{statement}
+use Rattle.values.proofs.blocks.hex_block.Statement.{statement}
 use Rattle.values.proofs.blocks.hex_block.Tie as tie
-
-run-end-requires : tie.Need-run-end-requires
-run-end-requires c κs = search needs
-
-add-wrong : tie.Need-add-wrong
-add-wrong c = let w = run-within Hex (c .before .before .before .args .word .now) 0 (omega arith) in record { fits = omega (arith, c .before .run-end .ensures, c .before .before .before .pre) }
-
-wrong-requires : tie.Need-wrong-requires
-wrong-requires c κs = search needs
 
 returns : tie.Need-returns
 unfolding hexBlock
-returns c = simp (c .wrong .ensures, lt-ltb _ _ (c .before .if1 .taken), sym (c .before .before .run-end .ensures))
-
-add-source : tie.Need-add-source
-add-source c = search needs
-
-source-requires : tie.Need-source-requires
-source-requires c κs = search needs
-
-bytes-requires : tie.Need-bytes-requires
-bytes-requires c κs = search needs
-
-add-wrong-2 : tie.Need-add-wrong-2
-add-wrong-2 c = let w = run-within Hex (c .before .before .before .before .args .word .now) 0 (omega arith) in record { fits = omega (arith, c .before .before .run-end .ensures, c .before .before .before .before .pre) }
-
-wrong-requires-2 : tie.Need-wrong-requires-2
-wrong-requires-2 c κs = search needs
+returns c = simp (c .wrong .ensures, lt-ltb _ _ (c .before .if1 .taken), sym (c .before .before .span .ensures), sym (c .before .before .before .run-end .ensures))
 
 returns-2 : tie.Need-returns-2
 unfolding hexBlock
-returns-2 c = simp (c .bytes .ensures, sym (c .before .source .ensures), eq-eqb _ _ (c .before .before .if2 .taken), le-ltb _ _ (c .before .before .before .if1 .left), sym (c .before .before .before .before .run-end .ensures))
+returns-2 c = simp (c .fit .ensures, sym (c .before .source .ensures), eq-eqb _ _ (c .before .before .if2 .taken), sym (c .before .before .before .span2 .ensures), le-ltb _ _ (c .before .before .before .before .if1 .left), sym (c .before .before .before .before .before .span .ensures), sym (c .before .before .before .before .before .before .run-end .ensures))
 
 returns-3 : tie.Need-returns-3
 unfolding hexBlock
-returns-3 c = simp (c .wrong2 .ensures, ne-eqb _ _ (c .before .if2 .left), le-ltb _ _ (c .before .before .if1 .left), sym (c .before .before .before .run-end .ensures))
+returns-3 c = simp (c .wrong2 .ensures, ne-eqb _ _ (c .before .if2 .left), sym (c .before .before .span2 .ensures), le-ltb _ _ (c .before .before .before .if1 .left), sym (c .before .before .before .before .span .ensures), sym (c .before .before .before .before .before .run-end .ensures))
 
 pub hex-block-spec : {M : Type 1} → statement M
 hex-block-spec =
     tie.close
     (tie.spec
-    run-end-requires
-    add-wrong
-    wrong-requires
+    (λ c κs. search needs)
+    (λ c κs. search needs)
+    (λ c κs. search needs)
     returns
-    add-source
-    source-requires
-    bytes-requires
-    add-wrong-2
-    wrong-requires-2
+    (λ c κs. search needs)
+    (λ c κs. search needs)
+    (λ c κs. search needs)
+    (λ c. search needs)
+    (λ c κs. search needs)
     returns-2
     returns-3)

@@ -1,6 +1,6 @@
 use borrow.Author.Tests.{ne-eqb}
 use Rattle.values.specs.Fields.{expectedFor}
-use Rattle.words.proofs.arguments.expected_for.Statement.{statement}
+use Rattle.values.proofs.fields.expected_for.Statement.{statement}
 use Rattle.values.proofs.fields.expected_for.Tie as tie
 
 returns : tie.Need-returns

@@ -1,32 +1,8 @@
 use borrow.Author.Tests.{ne-eqb}
 use Rattle.values.specs.Fields.{plainValue}
 use borrow.Author.Needs.{needs}
-use Rattle.words.proofs.arguments.plain_value.Statement.{statement}
+use Rattle.values.proofs.fields.plain_value.Statement.{statement}
 use Rattle.values.proofs.fields.plain_value.Tie as tie
-
-number-value-requires : tie.Need-number-value-requires
-number-value-requires c κs = search needs
-
-number-value-requires-2 : tie.Need-number-value-requires-2
-number-value-requires-2 c κs = search needs
-
-number-value-requires-3 : tie.Need-number-value-requires-3
-number-value-requires-3 c κs = search needs
-
-function-value-requires : tie.Need-function-value-requires
-function-value-requires c κs = search needs
-
-bytes-value-requires : tie.Need-bytes-value-requires
-bytes-value-requires c κs = search needs
-
-bytes-value-requires-2 : tie.Need-bytes-value-requires-2
-bytes-value-requires-2 c κs = search needs
-
-bytes-value-requires-3 : tie.Need-bytes-value-requires-3
-bytes-value-requires-3 c κs = search needs
-
-wrong-requires : tie.Need-wrong-requires
-wrong-requires c κs = search needs
 
 returns : tie.Need-returns
 unfolding plainValue
@@ -64,14 +40,14 @@ pub plain-value-spec : {M : Type 1} → statement M
 plain-value-spec =
     tie.close
     (tie.spec
-    number-value-requires
-    number-value-requires-2
-    number-value-requires-3
-    function-value-requires
-    bytes-value-requires
-    bytes-value-requires-2
-    bytes-value-requires-3
-    wrong-requires
+    (λ c κs. search needs)
+    (λ c κs. search needs)
+    (λ c κs. search needs)
+    (λ c κs. search needs)
+    (λ c κs. search needs)
+    (λ c κs. search needs)
+    (λ c κs. search needs)
+    (λ c κs. search needs)
     returns
     returns-2
     returns-3

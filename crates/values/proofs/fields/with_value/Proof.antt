@@ -5,20 +5,8 @@ use Rattle.stream.specs.Commands.{filled}
 use Rattle.values.specs.Fields.{valueBytes, withValue}
 use Rattle.values.proofs.Laws.{one-byte}
 use borrow.Author.Needs.{needs}
-use Rattle.words.proofs.arguments.with_value.Statement.{statement}
+use Rattle.values.proofs.fields.with_value.Statement.{statement}
 use Rattle.values.proofs.fields.with_value.Tie as tie
-
-cast-a : tie.Need-cast-a
-cast-a c = search needs
-
-cast-a-2 : tie.Need-cast-a-2
-cast-a-2 c = search needs
-
-eight-of-requires : tie.Need-eight-of-requires
-eight-of-requires c κs = search needs
-
-eight-of-requires-2 : tie.Need-eight-of-requires-2
-eight-of-requires-2 c κs = search needs
 
 returns : tie.Need-returns
 unfolding withValue valueBytes filled
@@ -52,10 +40,10 @@ pub with-value-spec : {M : Type 1} → statement M
 with-value-spec =
     tie.close
     (tie.spec
-    cast-a
-    cast-a-2
-    eight-of-requires
-    eight-of-requires-2
+    (λ c. search needs)
+    (λ c. search needs)
+    (λ c κs. search needs)
+    (λ c κs. search needs)
     returns
     returns-2
     returns-3

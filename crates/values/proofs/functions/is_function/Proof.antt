@@ -1,6 +1,6 @@
 use borrow.Author.Tests.{eq-eqb, ne-eqb}
 use Rattle.values.specs.Values.{functionLetter}
-use Rattle.words.proofs.values.is_function.Statement.{statement}
+use Rattle.values.proofs.functions.is_function.Statement.{statement}
 use Rattle.values.proofs.functions.is_function.Tie as tie
 
 returns : tie.Need-returns

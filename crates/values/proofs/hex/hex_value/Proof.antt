@@ -1,17 +1,11 @@
 use native.Mathlib.Omega.{arith}
 use mathlib.Core.Path.{_≡_}
 use Prim.Native.Nat.{_-_, _%_}
-use borrow.Author.Tests.{le-leb, le-ltb, lt-leb, lt-ltb}
+use borrow.Author.Tests.{le-leb, le-ltb, lt-ltb}
 use Rattle.values.specs.Sources.{hexValue}
 use borrow.Author.Needs.{needs}
-use Rattle.words.proofs.sources.hex_value.Statement.{statement}
+use Rattle.values.proofs.hex.hex_value.Statement.{statement}
 use Rattle.values.proofs.hex.hex_value.Tie as tie
-
-sub-result : tie.Need-sub-result
-sub-result c = search needs
-
-sub-result-2 : tie.Need-sub-result-2
-sub-result-2 c = search needs
 
 returns : tie.Need-returns
 unfolding hexValue
@@ -30,4 +24,4 @@ unfolding hexValue
 returns-4 c = (simp (le-ltb _ _ (c .if3 .left), le-ltb _ _ (c .before .if1 .left)), omega arith)
 
 pub hex-value-spec : {M : Type 1} → statement M
-hex-value-spec = tie.close (tie.spec sub-result sub-result-2 returns returns-2 returns-3 returns-4)
+hex-value-spec = tie.close (tie.spec (λ c. search needs) (λ c. search needs) returns returns-2 returns-3 returns-4)

@@ -1,12 +1,12 @@
 use borrow.Author.Needs.{needs}
 use mathlib.Core.List.{[], _∷_}
-use mathlib.Core.Path.{_≡_, refl, sym, ap, _∙_}
-use Prim.Native.Nat.{ℕ, _+_, _-_, _*_, _≤_, _<_}
+use mathlib.Core.Path.{_≡_, refl, ap, _∙_}
+use Prim.Native.Nat.{ℕ, _+_, _-_, _≤_, _<_}
 use native.Mathlib.Omega.{arith}
 use lib.ListN.{length, drop}
 use Rattle.printout.specs.Page.{page, entered}
-use Rattle.values.specs.Sources.{unhex, unhex-step, unhex-end, enter-unhex, unhex-done}
-use Rattle.words.proofs.sources.put_unhexed.Statement.{statement}
+use Rattle.values.specs.Sources.{unhex, enter-unhex, unhex-done}
+use Rattle.values.proofs.hex.put_unhexed.Statement.{statement}
 use Rattle.values.proofs.hex.put_unhexed.Tie as tie
 
 abbrev Inv-loop : tie.InvT-loop
@@ -17,27 +17,6 @@ abbrev μ-loop : tie.MeasureT-loop
 
 loop-holds : tie.Need-loop-holds Inv-loop μ-loop
 loop-holds c = (search needs, refl, refl)
-
-add-loop : tie.Need-add-loop Inv-loop μ-loop
-add-loop c = search needs
-
-shared-slice-read-hex-byte : tie.Need-shared-slice-read-hex-byte Inv-loop μ-loop
-shared-slice-read-hex-byte c = search needs
-
-add-hex-byte : tie.Need-add-hex-byte Inv-loop μ-loop
-add-hex-byte c = search needs
-
-shared-slice-read-hex-byte-2 : tie.Need-shared-slice-read-hex-byte-2 Inv-loop μ-loop
-shared-slice-read-hex-byte-2 c = search needs
-
-hex-byte-requires : tie.Need-hex-byte-requires Inv-loop μ-loop
-hex-byte-requires c κs = search needs
-
-put-requires : tie.Need-put-requires Inv-loop μ-loop
-put-requires c κs = search needs
-
-add-i : tie.Need-add-i Inv-loop μ-loop
-add-i c = search needs
 
 loop-less : tie.Need-loop-less Inv-loop μ-loop
 loop-less c = omega arith
@@ -67,13 +46,13 @@ put-unhexed-spec =
     Inv-loop
     μ-loop
     loop-holds
-    add-loop
-    shared-slice-read-hex-byte
-    add-hex-byte
-    shared-slice-read-hex-byte-2
-    hex-byte-requires
-    put-requires
-    add-i
+    (λ c. search needs)
+    (λ c. search needs)
+    (λ c. search needs)
+    (λ c. search needs)
+    (λ c κs. search needs)
+    (λ c κs. search needs)
+    (λ c. search needs)
     loop-less
     loop-again
     same-length

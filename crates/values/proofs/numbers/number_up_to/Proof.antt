@@ -6,8 +6,8 @@ use native.Mathlib.Omega.{arith}
 use lib.ListN.{length, drop}
 use borrow.Author.Needs.{needs}
 use Rattle.ground.specs.Rows.{row, row-map-step, row-map-end}
-use Rattle.values.specs.Numbers.{digitValue, decimalValue, upTo, read-below, above-limit, within-limit}
-use Rattle.words.proofs.numbers.number_up_to.Statement.{statement}
+use Rattle.values.specs.Numbers.{digitValue, decimalValue, read-below, above-limit, within-limit}
+use Rattle.values.proofs.numbers.number_up_to.Statement.{statement}
 use Rattle.values.proofs.numbers.number_up_to.Tie as tie
 
 abbrev Inv-loop : tie.InvT-loop
@@ -20,18 +20,6 @@ loop-holds : tie.Need-loop-holds Inv-loop μ-loop
 unfolding decimalValue
 loop-holds c = (omega arith, refl)
 
-mul-n : tie.Need-mul-n Inv-loop μ-loop
-mul-n c = search needs
-
-shared-slice-read-digit-value : tie.Need-shared-slice-read-digit-value Inv-loop μ-loop
-shared-slice-read-digit-value c = search needs
-
-digit-value-requires : tie.Need-digit-value-requires Inv-loop μ-loop
-digit-value-requires c κs = search needs
-
-add-n : tie.Need-add-n Inv-loop μ-loop
-add-n c = search needs
-
 returns : tie.Need-returns Inv-loop μ-loop
 returns c =
     let i = c .before .before .before .before .loop .i in
@@ -41,9 +29,6 @@ returns c =
         ap (λ (d : ℕ). row 10 (c .before .before .before .before .loop .n * 10 + d) (map digitValue (drop (i + 1) w))) (c .before .digit-value .ensures .0) ∙ sym (row-map-step 10 _ digitValue w i h) ∙ c .before .before .before .before .loop .inv .1 in
     let k = read-below _ (i + 1) w r in
     sym (above-limit _ _ (omega arith))
-
-add-i : tie.Need-add-i Inv-loop μ-loop
-add-i c = search needs
 
 loop-less : tie.Need-loop-less Inv-loop μ-loop
 loop-less c = omega arith
@@ -55,9 +40,6 @@ loop-again c =
     let h : i < length w = search needs in
     (omega arith,
      ap (λ (d : ℕ). row 10 (c .before .before .before .before .loop .n * 10 + d) (map digitValue (drop (i + 1) w))) (c .before .digit-value .ensures .0) ∙ sym (row-map-step 10 _ digitValue w i h) ∙ c .before .before .before .before .loop .inv .1)
-
-cast-t12 : tie.Need-cast-t12 Inv-loop μ-loop
-cast-t12 c = search needs
 
 returns-2 : tie.Need-returns-2 Inv-loop μ-loop
 returns-2 c =
@@ -73,13 +55,13 @@ number-up-to-spec =
     Inv-loop
     μ-loop
     loop-holds
-    mul-n
-    shared-slice-read-digit-value
-    digit-value-requires
-    add-n
+    (λ c. search needs)
+    (λ c. search needs)
+    (λ c κs. search needs)
+    (λ c. search needs)
     returns
-    add-i
+    (λ c. search needs)
     loop-less
     loop-again
-    cast-t12
+    (λ c. search needs)
     returns-2)

@@ -1,13 +1,11 @@
 use borrow.Author.Needs.{needs}
-use mathlib.Core.Path.{_≡_, refl, sym, ap, _∙_}
-use Prim.Native.Nat.{ℕ, _-_, _≤_, _<_}
+use mathlib.Core.Path.{_≡_, refl, _∙_}
+use Prim.Native.Nat.{_-_, _<_}
 use native.Mathlib.Omega.{arith}
 use lib.ListN.{length}
 use Rattle.printout.specs.Page.{page, entered}
-use Rattle.words.specs.Split.{wordAt}
-use Rattle.words.specs.declared.Word.{Word}
-use Rattle.values.specs.Sources.{wordBytes, rawNext, rawFrom, raw-turn, raw-end}
-use Rattle.words.proofs.sources.put_raw.Statement.{statement}
+use Rattle.values.specs.Sources.{rawFrom, raw-turn, raw-end}
+use Rattle.values.proofs.sources.put_raw.Statement.{statement}
 use Rattle.values.proofs.sources.put_raw.Tie as tie
 
 abbrev Inv-loop : tie.InvT-loop
@@ -18,15 +16,6 @@ abbrev μ-loop : tie.MeasureT-loop
 
 loop-holds : tie.Need-loop-holds Inv-loop μ-loop
 loop-holds c = (refl, refl)
-
-word-at-requires : tie.Need-word-at-requires Inv-loop μ-loop
-word-at-requires c κs = search needs
-
-put-word-requires : tie.Need-put-word-requires Inv-loop μ-loop
-put-word-requires c κs = search needs
-
-raw-next-requires : tie.Need-raw-next-requires Inv-loop μ-loop
-raw-next-requires c κs = search needs
 
 sub-turns : tie.Need-sub-turns Inv-loop μ-loop
 sub-turns c = omega arith
@@ -56,9 +45,9 @@ put-raw-spec =
     Inv-loop
     μ-loop
     loop-holds
-    word-at-requires
-    put-word-requires
-    raw-next-requires
+    (λ c κs. search needs)
+    (λ c κs. search needs)
+    (λ c κs. search needs)
     sub-turns
     loop-less
     loop-again

@@ -1,28 +1,7 @@
 use Rattle.printout.specs.Page.{entered}
 use borrow.Author.Needs.{needs}
-use Rattle.words.proofs.sources.put_word.Statement.{statement}
+use Rattle.values.proofs.sources.put_word.Statement.{statement}
 use Rattle.values.proofs.sources.put_word.Tie as tie
-
-enum-known-word : tie.Need-enum-known-word
-enum-known-word c = search needs
-
-part-of-requires : tie.Need-part-of-requires
-part-of-requires c κs = search needs
-
-put-unhexed-requires : tie.Need-put-unhexed-requires
-put-unhexed-requires c κs = search needs
-
-enum-told : tie.Need-enum-told
-enum-told c = search needs
-
-enum-told-2 : tie.Need-enum-told-2
-enum-told-2 c = search needs
-
-enum-told-3 : tie.Need-enum-told-3
-enum-told-3 c = search needs
-
-same-length : tie.Need-same-length
-same-length c = search needs
 
 returns : tie.Need-returns
 returns c = simp (c .before .before .put-unhexed .ensures, c .before .before .before .part-of .ensures, c .before .before .before .before .before .before .word .given .1, c .before .before .before .before .before .before .before .match .keys1)
@@ -43,13 +22,13 @@ pub put-word-spec : {M : Type 1} → statement M
 put-word-spec =
     tie.close
     (tie.spec
-    enum-known-word
-    part-of-requires
-    put-unhexed-requires
-    enum-told
-    enum-told-2
-    enum-told-3
-    same-length
+    (λ c. search needs)
+    (λ c κs. search needs)
+    (λ c κs. search needs)
+    (λ c. search needs)
+    (λ c. search needs)
+    (λ c. search needs)
+    (λ c. search needs)
     returns
     returns-2
     returns-3
