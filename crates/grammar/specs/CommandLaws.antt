@@ -5,7 +5,7 @@ use mathlib.Core.Option.{some}
 use mathlib.Core.List.{List, []}
 use Prim.Native.Nat.{ℕ}
 use native.Mathlib.Omega.{arith}
-use lib.ListN.{length, drop}
+use lib.ListN.{drop}
 use Rattle.names.specs.declared.Says.the-variants.{Command}
 use Rattle.reader.specs.declared.Line.{Line}
 use Rattle.reader.specs.Line.{soFar}
@@ -20,7 +20,7 @@ use Rattle.values.specs.declared.Origin.the-variants.{Letters}
 use Rattle.values.specs.Sources.{source, meant}
 use Rattle.grammar.specs.Lines.{Piece, Lines}
 use Rattle.grammar.specs.Says.{Each}
-use Rattle.grammar.specs.WordLaws.{said, tells, words-padded, Read, fits-read, Done, said-read, ended-none, fits-ended}
+use Rattle.grammar.specs.ReadLaws.{said, tells, words-padded, Read, fits-read, Done, said-read, ended-none, fits-ended}
 
 module _ (l kept ends : List ℕ) (t : ℕ) (ks : List ℕ) (known : argumentsOf t ≡ some ks) (at : ℕ) where
   abbrev named : Line

@@ -1,6 +1,6 @@
 -- The reader takes exactly the grammar's lines, and each line has one reading.
-use mathlib.Core.Path.{_≡_, refl, sym, ap, ap₂, _∙_, subst, subst₂}
-use mathlib.Core.Bool.{true, false, cond, false≢true, true≢false}
+use mathlib.Core.Path.{_≡_, refl, sym, ap, _∙_, subst, subst₂}
+use mathlib.Core.Bool.{true, false, false≢true, true≢false}
 use mathlib.Core.Logic.{_↔_}
 use mathlib.Core.Option.{some}
 use mathlib.Core.List.{List, [], _∷_, map}
@@ -14,7 +14,7 @@ use Rattle.names.specs.Names.{capital, name, startOf}
 use Rattle.printout.specs.Text.{letters}
 use Rattle.reader.specs.declared.Line.{Line}
 use Rattle.reader.specs.Line.{wrongLine, soFar}
-use Rattle.reader.specs.Command.{endedLine, commandLine}
+use Rattle.reader.specs.Command.{commandLine}
 use Rattle.reader.specs.Raw.{rawLine}
 use Rattle.reader.specs.Reader.{aloneLine, saysLine, startedLine, firstWord, lineOf}
 use Rattle.stream.specs.declared.Request.{Request}
@@ -25,13 +25,14 @@ use Rattle.stream.specs.RequestLaws.{Sound}
 use Rattle.values.specs.declared.Origin.the-variants.{Letters}
 use Rattle.values.specs.Sources.{source, meant}
 use Rattle.words.specs.declared.Word.{Word}
-use Rattle.words.specs.declared.Word.the-variants.{PlainWord, TextWord, Broken, NoWord}
+use Rattle.words.specs.declared.Word.the-variants.{TextWord, Broken}
 use Rattle.words.specs.Split.{wordAt}
 use Rattle.grammar.specs.Lines.{Piece, plain, text, Begins, Wordless, Lines}
-use Rattle.grammar.specs.LineLaws.{part-there, rest-there, word-none, Stands, begins-stands, Next, none, found, broken, look}
-use Rattle.grammar.specs.Says.{Commands, RawBytes, Alone, Reads}
-use Rattle.grammar.specs.WordLaws.{ended-none, fits-ended}
-use Rattle.grammar.specs.CommandLaws.{Fits, fits-command, said-command}
+use Rattle.grammar.specs.LetterLaws.{part-there, rest-there}
+use Rattle.grammar.specs.LineLaws.{word-none, begins-stands, Next, none, found, broken, look}
+use Rattle.grammar.specs.Says.{Commands, RawBytes, Reads}
+use Rattle.grammar.specs.ReadLaws.{ended-none, fits-ended}
+use Rattle.grammar.specs.CommandLaws.{fits-command, said-command}
 use Rattle.grammar.specs.NameLaws.{begun, First, command, raw, help, who, quit, no-name, first-word, command-begins, raw-begins, help-begins, who-begins, quit-begins}
 use Rattle.grammar.specs.RawLaws.{fits-raw, said-raw}
 

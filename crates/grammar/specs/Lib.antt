@@ -1,9 +1,13 @@
 pub mod Lines
-pub mod LineLaws
 pub mod Means
-pub mod MeansLaws
 pub mod Says
-pub mod WordLaws
+pub mod LetterLaws
+pub mod LineLaws
+pub mod Splitting
+pub mod NumberLaws
+pub mod BytesLaws
+pub mod MeansLaws
+pub mod ReadLaws
 pub mod CommandLaws
 pub mod NameLaws
 pub mod RawLaws

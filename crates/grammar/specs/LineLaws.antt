@@ -1,18 +1,17 @@
 -- The reader's next word and the grammar's: what stands at a place of a line.
-use mathlib.Core.Path.{_≡_, refl, sym, ap, ap₂, _∙_, subst}
-use mathlib.Core.Bool.{Bool, true, false, cond, not, false≢true, true≢false}
-use mathlib.Core.List.{List, [], _∷_, _++_, append-assoc, nil≢cons}
-use Prim.Native.Nat.{ℕ, zero, suc, _+_, _-_, _≤_, _<_}
+use mathlib.Core.Path.{_≡_, refl, sym, ap, ap₂, _∙_}
+use mathlib.Core.Bool.{true, false, cond, not, false≢true, true≢false}
+use mathlib.Core.List.{List, [], _∷_, _++_, append-assoc}
+use Prim.Native.Nat.{ℕ, suc, _+_}
 use Prim.Native.Char.{code}
 use native.Mathlib.Omega.{arith}
-use lib.Dec.{eqb, ltb, leb}
-use lib.ListN.{length, getD, take, drop, length-append, length-drop, take-append-drop}
-use lib.Seq.{drop-cons, drop-drop, take-at, drop-at, getD-drop}
-use borrow.Author.Tests.{eqb-true, eqb-false, eq-eqb, ne-eqb, ltb-true, ltb-false, le-leb, lt-leb, lt-ltb, le-ltb, not-true, not-false}
+use lib.Dec.{eqb, leb}
+use lib.ListN.{length, take, drop, take-append-drop}
+use lib.Seq.{drop-drop}
+use borrow.Author.Tests.{eqb-true, eq-eqb, ne-eqb, le-leb, lt-leb, lt-ltb, not-true, not-false}
 use Rattle.ground.specs.Search.{byTest}
-use Rattle.stream.specs.Fields.{part}
 use Rattle.words.specs.declared.Class.{Class}
-use Rattle.words.specs.declared.Class.the-variants.{Blank, Plain, Text, Digit, Hex}
+use Rattle.words.specs.declared.Class.the-variants.{Blank, Plain, Text}
 use Rattle.words.specs.declared.Expected.{Expected}
 use Rattle.words.specs.declared.Expected.the-variants.{ClosingQuote, SpaceAfterQuote}
 use Rattle.words.specs.declared.Word.{Word}
@@ -20,96 +19,8 @@ use Rattle.words.specs.declared.Word.the-variants.{PlainWord, TextWord, Broken,
 use Rattle.words.specs.Letters.{blankLetter, isIn, front}
 use Rattle.words.specs.Split.{stops, textAt, startsAt, wordAt}
 use Rattle.reader.specs.Command.{after}
-use Rattle.grammar.specs.Lines.{every, Piece, plain, text, spelled, formed, stopped, comment, Begins, Wordless, Lines}
-
--- ---- tests
-
-pub both : (b c : Bool) → cond b c false ≡ true → (b ≡ true) × (c ≡ true)
-both true c e = (refl, e)
-both false c e = absurd (false≢true e)
-
-pub second : (b c : Bool) → cond b false c ≡ true → (b ≡ false) × (c ≡ true)
-second true c e = absurd (false≢true e)
-second false c e = (refl, e)
-
--- ---- runs of one class
-
-module _ (k : Class) where
-  -- a run goes on over letters of the class
-  pub front-over : (b r : List ℕ) → every k b ≡ true → front k (b ++ r) ≡ length b + front k r
-  unfolding every front
-  front-over [] r h = omega arith
-  front-over (c ∷ cs) r h =
-      byTest (isIn k c)
-      (λ e. let i = front-over cs r (rw e at h) in rw e (omega arith))
-      (λ e. absurd (false≢true (rw e at h)))
-
-  pub front-is : (b r : List ℕ) → every k b ≡ true → front k r ≡ 0 → front k (b ++ r) ≡ length b
-  front-is b r h e = let f = front-over b r h in omega arith
-
-  pub front-every : (l : List ℕ) → every k (take (front k l) l) ≡ true
-  unfolding every front
-  front-every [] = refl
-  front-every (c ∷ cs) =
-      let n : 1 + front k cs ≡ suc (front k cs) = omega arith in
-      byTest (isIn k c) (λ e. rw (e, n, e) (front-every cs)) (λ e. rw e)
-
-  pub front-after : (l : List ℕ) → front k (drop (front k l) l) ≡ 0
-  unfolding front
-  front-after [] = refl
-  front-after (c ∷ cs) =
-      let n : 1 + front k cs ≡ suc (front k cs) = omega arith in
-      byTest (isIn k c) (λ e. rw (e, n) (front-after cs)) (λ e. rw (e, e))
-
-  -- a word's letters are all of the class exactly where the run from its start does not end within it
-  pub front-within : (w r : List ℕ) → ltb (front k (w ++ r)) (length w) ≡ not (every k w)
-  unfolding every front
-  front-within [] r = le-ltb (front k r) 0 (omega arith)
-  front-within (c ∷ cs) r =
-      byTest (isIn k c)
-      (λ e. rw e (one-more (front k (cs ++ r)) (length cs) ∙ front-within cs r))
-      (λ e. rw e (lt-ltb 0 (suc (length cs)) (omega arith)))
-    where
-      one-more : (m n : ℕ) → ltb (1 + m) (suc n) ≡ ltb m n
-      one-more m n = byTest (ltb m n) (λ e. let h = ltb-true m n e in lt-ltb (1 + m) (suc n) (omega arith) ∙ sym e) (λ e. let h = ltb-false m n e in le-ltb (1 + m) (suc n) (omega arith) ∙ sym e)
-
--- no plain letter follows: a blank letter, `#` or the end
-stopped-is : (r : List ℕ) → eqb (front Plain r) 0 ≡ stopped r
-unfolding front isIn stopped
-stopped-is [] = refl
-stopped-is (c ∷ cs) =
-    byTest (blankLetter c)
-    (λ e. rw e)
-    (λ e. byTest (eqb c (code "#")) (λ h. rw (e, h)) (λ h. rw (e, h) (ne-eqb (1 + front Plain cs) 0 (λ q. omega arith))))
-
-pub stopped-front : (r : List ℕ) → stopped r ≡ true → front Plain r ≡ 0
-stopped-front r h = eqb-true (front Plain r) 0 (stopped-is r ∙ h)
-
-pub front-stopped : (r : List ℕ) → front Plain r ≡ 0 → stopped r ≡ true
-front-stopped r h = sym (stopped-is r) ∙ eq-eqb (front Plain r) 0 h
-
--- ---- a letter at a place
-
-module _ (l : List ℕ) (s c : ℕ) (cs : List ℕ) (h : drop s l ≡ c ∷ cs) where
-  pub letter-within : s < length l
-  letter-within = omega (arith, sym (length-drop s l) ∙ ap length h)
-
-  pub letter-there : getD l s 0 ≡ c
-  letter-there = ap (λ (n : ℕ). getD l n 0) (omega arith) ∙ sym (getD-drop s l 0 0) ∙ ap (λ (r : List ℕ). getD r 0 0) h
-
-  pub letter-after : drop (s + 1) l ≡ cs
-  letter-after = sym (drop-drop 1 s l) ∙ ap (drop 1) h
-
-pub nothing-there : (l : List ℕ) (s : ℕ) → drop s l ≡ [] → length l ≤ s
-nothing-there l s h = omega (arith, sym (length-drop s l) ∙ ap length h)
-
--- a part of a line, and what follows it
-module _ (l : List ℕ) (s : ℕ) (w r : List ℕ) (h : drop s l ≡ w ++ r) where
-  pub part-there : part s (s + length w) l ≡ w
-  part-there = let n : s + length w - s ≡ length w = omega arith in rw (n, h) (take-at w r (length w) refl)
-
-  pub rest-there : drop (s + length w) l ≡ r
-  rest-there = sym (drop-drop (length w) s l) ∙ ap (drop (length w)) h ∙ drop-at w r (length w) refl
+use Rattle.grammar.specs.Lines.{every, Piece, plain, text, spelled, formed, stopped, comment, Begins, Wordless}
+use Rattle.grammar.specs.LetterLaws.{both, second, front-is, front-every, front-after, stopped-front, front-stopped, letter-within, letter-there, letter-after, nothing-there, rest-there}
 
 -- ---- the grammar's word, as the reader's
 
@@ -327,24 +238,7 @@ look l at =
     let n = front Blank d in
     next-after l at (take n d) (drop n d) (sym (take-append-drop n d)) (front-every Blank d) (front-after Blank d)
 
--- ---- a word's letters, and where the line goes on
-
--- the letters of the reader's word
-abbrev pub pieceOf : List ℕ → Word → Piece
-pieceOf l (PlainWord a z) = plain (part a z l)
-pieceOf l (TextWord a z) = text (part a z l)
-pieceOf l (Broken b x) = plain []
-pieceOf l (NoWord b) = plain []
-
-abbrev pub isWord : Word → Bool
-isWord (PlainWord a z) = true
-isWord (TextWord a z) = true
-isWord (Broken b x) = false
-isWord (NoWord b) = false
-
-pub piece-there : (l : List ℕ) (s : ℕ) (p : Piece) (r : List ℕ) → drop s l ≡ spelled p ++ r → pieceOf l (wordFrom s p) ≡ p
-piece-there l s (plain w) r h = ap plain (part-there l s w r h)
-piece-there l s (text w) r h = ap text (part-there l (s + 1) w (code "\"" ∷ r) (inside l s w r h))
+-- ---- where the line goes on after it
 
 pub after-there : (l : List ℕ) (s : ℕ) (p : Piece) (r : List ℕ) → drop s l ≡ spelled p ++ r → drop (after (length l) (wordFrom s p)) l ≡ r
 unfolding after
@@ -353,29 +247,3 @@ after-there l s (text w) r h =
     let z = s + 1 + length w in
     let t : drop z l ≡ code "\"" ∷ r = rest-there l (s + 1) w (code "\"" ∷ r) (inside l s w r h) in
     rw (lt-ltb z (length l) (letter-within l z (code "\"") r t)) (letter-after l z (code "\"") r t)
-
-pub is-word : (s : ℕ) (p : Piece) → isWord (wordFrom s p) ≡ true
-is-word s (plain w) = refl
-is-word s (text w) = refl
-
--- ---- a line has one splitting
-
-module _ (l : List ℕ) where
-  begins-piece : (p : Piece) (rest : List ℕ) → Begins p l rest → (pieceOf l (wordAt l 0) ≡ p) × (drop (after (length l) (wordAt l 0)) l ≡ rest) × (isWord (wordAt l 0) ≡ true)
-  begins-piece p rest h =
-      let k = begins-stands l 0 p rest h in
-      (ap (pieceOf l) (k .word) ∙ piece-there l (k .start) p rest (k .there),
-      ap (λ (v : Word). drop (after (length l) v) l) (k .word) ∙ after-there l (k .start) p rest (k .there),
-      ap isWord (k .word) ∙ is-word (k .start) p)
-
-  pub not-both : (p : Piece) (rest : List ℕ) → Begins p l rest → Wordless l → ⊥
-  not-both p rest h k = true≢false (sym (begins-piece p rest h .2) ∙ ap isWord (word-none l 0 k))
-
-pub one-splitting : (ws vs : List Piece) (l : List ℕ) → Lines ws l → Lines vs l → ws ≡ vs
-one-splitting [] [] l h k = refl
-one-splitting [] (v ∷ vs) l h k = absurd (not-both l v (k .0) (k .1) h)
-one-splitting (w ∷ ws) [] l h k = absurd (not-both l w (h .0) (h .1) k)
-one-splitting (w ∷ ws) (v ∷ vs) l h k =
-    let x = begins-piece l w (h .0) (h .1) in
-    let y = begins-piece l v (k .0) (k .1) in
-    ap₂ (λ (p : Piece) (ps : List Piece). p ∷ ps) (sym (x .0) ∙ y .0) (one-splitting ws vs (h .0) (h .2) (subst (Lines vs) (sym (y .1) ∙ x .1) (k .2)))

@@ -1,5 +1,5 @@
 -- A line's first word: the reader knows exactly the names, in small or capital letters.
-use mathlib.Core.Path.{_≡_, refl, sym, ap, ap₂, _∙_, subst}
+use mathlib.Core.Path.{_≡_, refl, sym, ap, ap₂, _∙_}
 use mathlib.Core.Bool.{Bool, true, false, cond, false≢true}
 use mathlib.Core.Option.{Option, none, some, Option·none-ne-some}
 use mathlib.Core.List.{List, [], _∷_, map, nil≢cons, head-eq-of-cons-eq, tail-eq-of-cons-eq}
@@ -7,7 +7,7 @@ use Prim.Native.Nat.{ℕ, _-_, _≤_, _<_}
 use Prim.Native.Char.{code}
 use native.Mathlib.Omega.{arith}
 use lib.Dec.{eqb, leb}
-use borrow.Author.Tests.{eqb-true, eq-eqb, leb-true, lt-leb}
+use borrow.Author.Tests.{eqb-true, leb-true, lt-leb}
 use Rattle.ground.specs.Search.{byTest}
 use Rattle.names.specs.declared.Says.{Says}
 use Rattle.names.specs.declared.Says.the-variants.{Nothing, Command, Raw, Help, Who, Quit}
@@ -17,7 +17,7 @@ use Rattle.printout.specs.Rows.{Row}
 use Rattle.printout.specs.Text.{letters}
 use Rattle.stream.specs.Commands.{Row as Form, commands, argumentsIn, argumentsOf}
 use Rattle.words.specs.Letters.{between}
-use Rattle.grammar.specs.LineLaws.{both}
+use Rattle.grammar.specs.LetterLaws.{both}
 
 abbrev pub begun : Says → ℕ → Start
 begun s t = record { known = true; says = s; tag = t }

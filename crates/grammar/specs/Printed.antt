@@ -1,13 +1,13 @@
 -- What NOTARY prints is read back: its bytes as hex digits, its numbers as decimal digits.
-use mathlib.Core.Path.{_≡_, refl, sym, ap, ap₂, _∙_}
-use mathlib.Core.Bool.{Bool, true, false, cond}
+use mathlib.Core.Path.{_≡_, refl, ap, ap₂, _∙_}
+use mathlib.Core.Bool.{true, false}
 use mathlib.Core.List.{List, [], _∷_, _++_, map, map-append}
 use Prim.Native.Nat.{ℕ, zero, suc, _+_, _-_, _*_, _/_, _%_, _^_, _≤_, _<_}
 use Prim.Native.Char.{code}
 use native.Mathlib.Omega.{arith}
 use native.Mathlib.Nat.{pow-suc}
 use lib.Dec.{ltb, leb}
-use lib.ListN.{length, getD}
+use lib.ListN.{length}
 use borrow.Author.Tests.{ltb-true, ltb-false, lt-ltb, le-ltb, le-leb, lt-leb}
 use Rattle.ground.specs.Search.{byTest}
 use Rattle.ground.specs.Lists.{Below}
@@ -19,7 +19,7 @@ use Rattle.words.specs.declared.Class.{Class}
 use Rattle.words.specs.declared.Class.the-variants.{Digit, Hex}
 use Rattle.words.specs.Letters.{between, isIn}
 use Rattle.grammar.specs.Lines.{every}
-use Rattle.grammar.specs.LineLaws.{both}
+use Rattle.grammar.specs.LetterLaws.{both}
 use Rattle.grammar.specs.Means.{Number, Pairs}
 
 -- ---- hex digits

@@ -1,10 +1,10 @@
 -- Raw bytes after their mark: the reader takes exactly the words of pairs of hex digits.
 use mathlib.Core.Path.{_≡_, refl, sym, ap, ap₂, _∙_, subst}
-use mathlib.Core.Bool.{Bool, true, false, cond, not, false≢true, true≢false}
+use mathlib.Core.Bool.{true, false, cond, not, false≢true, true≢false}
 use mathlib.Core.List.{List, [], _∷_, _++_}
 use Prim.Native.Nat.{ℕ, zero, suc, _+_, _-_, _%_, _≤_, _<_}
 use native.Mathlib.Omega.{arith}
-use lib.Dec.{eqb, ltb}
+use lib.Dec.{eqb}
 use lib.ListN.{length, drop, length-append, length-drop}
 use lib.Seq.{drop-length}
 use borrow.Author.Tests.{eqb-true, eq-eqb}
@@ -14,21 +14,23 @@ use Rattle.names.specs.declared.Says.the-variants.{Raw}
 use Rattle.reader.specs.declared.Line.{Line}
 use Rattle.reader.specs.Line.{wrongLine, soFar}
 use Rattle.reader.specs.Raw.{rawHex, rawWord, rawTurn, rawTurns, rawStart, rawLine}
-use Rattle.stream.specs.Fields.{Bytes, part}
+use Rattle.stream.specs.Fields.{Bytes}
 use Rattle.stream.specs.Commands.{blank}
 use Rattle.values.specs.declared.Origin.the-variants.{HexWords}
 use Rattle.values.specs.declared.Source.{Source}
-use Rattle.values.specs.Sources.{unhex, wordBytes, rawNext, rawFrom, meant, source}
+use Rattle.values.specs.Sources.{unhex, wordBytes, rawNext, rawFrom, source}
 use Rattle.words.specs.declared.Class.the-variants.{Hex}
 use Rattle.words.specs.declared.Expected.the-variants.{RawBytes as SomeRaw}
 use Rattle.words.specs.declared.Word.{Word}
 use Rattle.words.specs.declared.Word.the-variants.{PlainWord, TextWord, Broken, NoWord}
 use Rattle.words.specs.Letters.{front}
 use Rattle.words.specs.Split.{wordAt}
-use Rattle.grammar.specs.Lines.{every, Piece, plain, text, spelled, formed, comment, Begins, Wordless, Lines}
-use Rattle.grammar.specs.LineLaws.{part-there, rest-there, word-none, Stands, begins-stands, Next, none, found, broken, look, not-both}
+use Rattle.grammar.specs.Lines.{every, Piece, plain, text, formed, comment, Begins, Wordless, Lines}
+use Rattle.grammar.specs.LetterLaws.{part-there, rest-there}
+use Rattle.grammar.specs.Splitting.{not-both}
+use Rattle.grammar.specs.LineLaws.{word-none, Stands, begins-stands, Next, none, found, broken, look}
 use Rattle.grammar.specs.Means.{Pairs}
-use Rattle.grammar.specs.MeansLaws.{run-ends}
+use Rattle.grammar.specs.NumberLaws.{run-ends}
 use Rattle.grammar.specs.Says.{InPairs}
 
 some-letter : (w : List ℕ) → formed (plain w) ≡ true → 0 < length w

@@ -1,5 +1,5 @@
 -- A command's words, read one by one: what fits says the fields, and words that say the fields fit.
-use mathlib.Core.Path.{_≡_, refl, sym, ap, ap₂, _∙_, subst}
+use mathlib.Core.Path.{_≡_, refl, sym, ap, _∙_, subst}
 use mathlib.Core.Bool.{Bool, true, false, cond, false≢true, true≢false}
 use mathlib.Core.List.{List, [], _∷_}
 use Prim.Native.Nat.{ℕ, zero, suc, _≤_, _<_}
@@ -7,16 +7,14 @@ use native.Mathlib.Nat.{le-of-suc-le-suc, not-suc-le-zero}
 use native.Mathlib.Omega.{arith}
 use lib.Dec.{eqb}
 use lib.ListN.{length, drop}
-use borrow.Author.Tests.{eqb-true, eqb-false, eq-eqb, ne-eqb}
+use borrow.Author.Tests.{eqb-true, eq-eqb, ne-eqb}
 use Rattle.ground.specs.Search.{byTest}
 use Rattle.ground.specs.Lists.{padded}
-use Rattle.names.specs.declared.Says.{Says}
 use Rattle.reader.specs.declared.Line.{Line}
 use Rattle.reader.specs.Line.{wrongLine}
 use Rattle.reader.specs.Command.{after, tookValue, tookWord, readWord, readWords, nothingElse, endedLine}
 use Rattle.stream.specs.declared.Request.{Request}
 use Rattle.stream.specs.Fields.{Bytes}
-use Rattle.stream.specs.Commands.{filled}
 use Rattle.stream.specs.Grammar.{argument, among}
 use Rattle.stream.specs.RequestLaws.{Sound, own, other, stays-sound, no-data}
 use Rattle.stream.specs.GrammarLaws.{neither, ascending, above, up-to, later, not-among}
@@ -24,15 +22,14 @@ use Rattle.values.specs.declared.Value.{Value}
 use Rattle.values.specs.Sources.{meant}
 use Rattle.values.specs.Values.{wrong}
 use Rattle.values.specs.Fields.{valueOf, valueBytes, withValue}
-use Rattle.words.specs.declared.Expected.{Expected}
 use Rattle.words.specs.declared.Expected.the-variants.{NothingMore}
 use Rattle.words.specs.declared.Word.{Word}
-use Rattle.words.specs.declared.Word.the-variants.{PlainWord, TextWord, Broken, NoWord}
+use Rattle.words.specs.declared.Word.the-variants.{Broken, NoWord}
 use Rattle.words.specs.Split.{wordAt}
 use Rattle.grammar.specs.Lines.{Piece, plain, text, Begins, Wordless, Lines}
-use Rattle.grammar.specs.LineLaws.{wordFrom, word-none, Stands, begins-stands, Next, none, found, broken, look, after-there}
+use Rattle.grammar.specs.LineLaws.{wordFrom, word-none, begins-stands, Next, none, found, broken, look, after-there}
 use Rattle.grammar.specs.Means.{Means}
-use Rattle.grammar.specs.MeansLaws.{Exact, means-exact, means-sized, means-bytes}
+use Rattle.grammar.specs.MeansLaws.{means-exact, means-sized, means-bytes}
 use Rattle.grammar.specs.Says.{Each}
 
 module _ (l kept ends : List ℕ) where
