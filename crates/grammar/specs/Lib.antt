@@ -13,3 +13,4 @@ pub mod NameLaws
 pub mod RawLaws
 pub mod Exact
 pub mod Printed
+pub mod Examples
