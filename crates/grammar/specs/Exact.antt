@@ -28,9 +28,9 @@ use Rattle.words.specs.declared.Word.{Word}
 use Rattle.words.specs.declared.Word.the-variants.{TextWord, Broken}
 use Rattle.words.specs.Split.{wordAt}
 use Rattle.grammar.specs.Lines.{Piece, plain, text, Begins, Wordless, Lines}
+use Rattle.grammar.specs.Says.{Commands, RawBytes, Reads}
 use Rattle.grammar.specs.LetterLaws.{part-there, rest-there}
 use Rattle.grammar.specs.LineLaws.{word-none, begins-stands, Next, none, found, broken, look}
-use Rattle.grammar.specs.Says.{Commands, RawBytes, Reads}
 use Rattle.grammar.specs.ReadLaws.{ended-none, fits-ended}
 use Rattle.grammar.specs.CommandLaws.{fits-command, said-command}
 use Rattle.grammar.specs.NameLaws.{begun, First, command, raw, help, who, quit, no-name, first-word, command-begins, raw-begins, help-begins, who-begins, quit-begins}

@@ -13,4 +13,5 @@ pub mod NameLaws
 pub mod RawLaws
 pub mod Exact
 pub mod Printed
+pub mod Written
 pub mod Examples

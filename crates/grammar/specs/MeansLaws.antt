@@ -21,9 +21,9 @@ use Rattle.values.specs.Values.{fitting, wrong, dataOf, bytesValue}
 use Rattle.values.specs.Fields.{plainValue, textValue, valueOf, valueBytes}
 use Rattle.words.specs.declared.Expected.the-variants.{Identifier, Interchange}
 use Rattle.grammar.specs.Lines.{Piece, plain, text, spelled, formed}
-use Rattle.grammar.specs.LineLaws.{wordFrom, inside}
 use Rattle.grammar.specs.Means.{Ordinal, Numeral, Function, Block, Data, Means}
 use Rattle.grammar.specs.LetterLaws.{part-there}
+use Rattle.grammar.specs.LineLaws.{wordFrom, inside}
 use Rattle.grammar.specs.NumberLaws.{Exact, no-value, a-value, exact-for, numeral-exact, one-long, function-exact}
 use Rattle.grammar.specs.BytesLaws.{unhex-length, bytesOf, Sized, InHex, bytes-exact}
 

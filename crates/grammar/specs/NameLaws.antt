@@ -47,7 +47,7 @@ capital-other c n e h =
     (λ f. let x = small c f in let m : c - 32 ≡ n = rw f at e in absurd (omega arith))
     (λ f. rw f at e)
 
-same-true : (w n : List ℕ) → sameName w n ≡ true → map capital w ≡ n
+pub same-true : (w n : List ℕ) → sameName w n ≡ true → map capital w ≡ n
 unfolding sameName
 same-true [] [] e = refl
 same-true [] (n ∷ ns) e = absurd (false≢true e)

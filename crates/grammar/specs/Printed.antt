@@ -19,8 +19,8 @@ use Rattle.words.specs.declared.Class.{Class}
 use Rattle.words.specs.declared.Class.the-variants.{Digit, Hex}
 use Rattle.words.specs.Letters.{between, isIn}
 use Rattle.grammar.specs.Lines.{every}
-use Rattle.grammar.specs.LetterLaws.{both}
 use Rattle.grammar.specs.Means.{Number, Pairs}
+use Rattle.grammar.specs.LetterLaws.{both}
 
 -- ---- hex digits
 

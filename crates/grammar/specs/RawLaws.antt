@@ -26,12 +26,12 @@ use Rattle.words.specs.declared.Word.the-variants.{PlainWord, TextWord, Broken,
 use Rattle.words.specs.Letters.{front}
 use Rattle.words.specs.Split.{wordAt}
 use Rattle.grammar.specs.Lines.{every, Piece, plain, text, formed, comment, Begins, Wordless, Lines}
-use Rattle.grammar.specs.LetterLaws.{part-there, rest-there}
-use Rattle.grammar.specs.Splitting.{not-both}
-use Rattle.grammar.specs.LineLaws.{word-none, Stands, begins-stands, Next, none, found, broken, look}
 use Rattle.grammar.specs.Means.{Pairs}
-use Rattle.grammar.specs.NumberLaws.{run-ends}
 use Rattle.grammar.specs.Says.{InPairs}
+use Rattle.grammar.specs.LetterLaws.{part-there, rest-there}
+use Rattle.grammar.specs.LineLaws.{word-none, Stands, begins-stands, Next, none, found, broken, look}
+use Rattle.grammar.specs.Splitting.{not-both}
+use Rattle.grammar.specs.NumberLaws.{run-ends}
 
 some-letter : (w : List ℕ) → formed (plain w) ≡ true → 0 < length w
 unfolding formed

@@ -27,10 +27,10 @@ use Rattle.words.specs.declared.Word.{Word}
 use Rattle.words.specs.declared.Word.the-variants.{Broken, NoWord}
 use Rattle.words.specs.Split.{wordAt}
 use Rattle.grammar.specs.Lines.{Piece, plain, text, Begins, Wordless, Lines}
-use Rattle.grammar.specs.LineLaws.{wordFrom, word-none, begins-stands, Next, none, found, broken, look, after-there}
 use Rattle.grammar.specs.Means.{Means}
-use Rattle.grammar.specs.MeansLaws.{means-exact, means-sized, means-bytes}
 use Rattle.grammar.specs.Says.{Each}
+use Rattle.grammar.specs.LineLaws.{wordFrom, word-none, begins-stands, Next, none, found, broken, look, after-there}
+use Rattle.grammar.specs.MeansLaws.{means-exact, means-sized, means-bytes}
 
 module _ (l kept ends : List ℕ) where
   -- the data read so far, and what has been read of the field j
