@@ -18,23 +18,23 @@ every k (c ∷ cs) = cond (isIn k c) (every k cs) false
 pub data Piece : Type 0 where
   plain text : List ℕ → Piece
 
--- "A word that starts with a quote is a text: it goes on to the next quote, and what lies between the two is its letters"
+-- "A word that starts with `"` is a text: it goes on to the next `"`, and what lies between the two is its letters"
 abbrev pub spelled : Piece → List ℕ
 spelled (plain w) = w
 spelled (text w) = code "\"" ∷ (w ++ (code "\"" ∷ []))
 
--- "A word starts at a letter that is not blank and not `#`. … Any other word is plain: it goes on up to a blank letter, `#` or the line's end."
+-- "A word starts at a letter that is not blank and not `#`." A text has no `"` among its letters; "any other word is plain: it goes on up to a blank letter, `#` or the line's end"
 unfoldable pub formed : Piece → Bool
 formed (plain []) = false
 formed (plain (c ∷ cs)) = cond (eqb c (code "\"")) false (every Plain (c ∷ cs))
 formed (text w) = every Text w
 
--- "a blank letter, `#` or the line's end"
+-- what may follow a word: "a blank letter, `#` or the line's end"
 unfoldable pub stopped : List ℕ → Bool
 stopped [] = true
 stopped (c ∷ cs) = cond (blankLetter c) true (eqb c (code "#"))
 
--- "`#` starts a comment, which is the rest of the line"
+-- "Where a word might start, `#` starts a comment, which is the rest of the line."
 unfoldable pub comment : List ℕ → Bool
 comment [] = true
 comment (c ∷ cs) = eqb c (code "#")
@@ -55,7 +55,7 @@ pub record Wordless (l : List ℕ) : Type 0 where
   pub blank : every Blank blanks ≡ true
   pub remark : comment rest ≡ true
 
--- the line l has these words
+-- the line l has these words, and no others
 abbrev pub Lines : List Piece → List ℕ → Type 0
 Lines [] l = Wordless l
 Lines (p ∷ ps) l = (rest : List ℕ) × Begins p l rest × Lines ps rest
