@@ -9,7 +9,7 @@ use native.Mathlib.Omega.{arith}
 use lib.Dec.{eqb, ltb, leb}
 use lib.ListN.{length, getD, take, drop, length-append, take-append-drop}
 use lib.Seq.{drop-at, length-take-le}
-use borrow.Author.Tests.{eqb-true, eqb-false, ne-eqb, ltb-true, ltb-false, leb-true, leb-false, le-leb, lt-leb, lt-ltb, le-ltb}
+use borrow.Author.Tests.{eqb-true, eqb-false, ne-eqb, ltb-true, ltb-false, leb-true, leb-false, lt-leb, lt-ltb, le-ltb}
 use Rattle.ground.specs.Search.{byTest}
 use Rattle.ground.specs.Lists.{padded, padded-all}
 use Rattle.stream.specs.Fields.{part, part-length}
@@ -25,7 +25,7 @@ use Rattle.words.specs.declared.Expected.the-variants.{Bytes as SomeBytes}
 use Rattle.words.specs.Letters.{between, isIn, front}
 use Rattle.grammar.specs.Lines.{every}
 use Rattle.grammar.specs.Means.{Number, Pairs, Answered, Ordinal}
-use Rattle.grammar.specs.LetterLaws.{letter-there, letter-after, part-there}
+use Rattle.grammar.specs.LetterLaws.{shifted-leb, letter-there, letter-after, part-there}
 use Rattle.grammar.specs.NumberLaws.{Exact, no-value, a-value, exact-is, exact-for, run-ends}
 
 -- ---- hex digits
@@ -212,10 +212,9 @@ module _ (l kept ends : List ℕ) (s : ℕ) (ds r : List ℕ) (h : drop s l ≡ 
   answer-read eight =
       let t : drop (s + 1) l ≡ ds ++ r = letter-after l s (code "$") (ds ++ r) h in
       let z : s + suc (length ds) ≡ s + 1 + length ds = omega arith in
-      rw (z, run-ends l (s + 1) ds r t Digit, part-there l (s + 1) ds r t, none (length ds))
-    where
-      none : (m : ℕ) → leb (s + 1 + m) (s + 1) ≡ leb m 0
-      none m = byTest (leb m 0) (λ e. let x = leb-true m 0 e in le-leb (s + 1 + m) (s + 1) (omega arith) ∙ sym e) (λ e. let x = leb-false m 0 e in lt-leb (s + 1 + m) (s + 1) (omega arith) ∙ sym e)
+      let start : s + 1 ≡ s + 1 + 0 = omega arith in
+      let none : leb (s + 1 + length ds) (s + 1) ≡ leb (length ds) 0 = ap (leb (s + 1 + length ds)) start ∙ shifted-leb (s + 1) (length ds) 0 in
+      rw (z, run-ends l (s + 1) ds r t Digit, part-there l (s + 1) ds r t, none)
 
   pub ordinal-exact : (eight : Bool) → Exact (answerValue eight (length kept) ends l s (s + 1) (s + suc (length ds))) (bytesOf l kept eight)
       (λ b. Ordinal kept ends (code "$" ∷ ds) b × Sized eight (length b))

@@ -5,10 +5,10 @@ use mathlib.Core.List.{List, [], _∷_, _++_}
 use Prim.Native.Nat.{ℕ, suc, _+_, _-_, _≤_, _<_}
 use Prim.Native.Char.{code}
 use native.Mathlib.Omega.{arith}
-use lib.Dec.{eqb, ltb}
+use lib.Dec.{eqb, ltb, leb}
 use lib.ListN.{length, getD, take, drop, length-drop}
 use lib.Seq.{drop-drop, take-at, drop-at, getD-drop}
-use borrow.Author.Tests.{eqb-true, eq-eqb, ne-eqb, ltb-true, ltb-false, lt-ltb, le-ltb}
+use borrow.Author.Tests.{eqb-true, eq-eqb, ne-eqb, leb-true, leb-false, le-leb, lt-leb, lt-ltb, le-ltb}
 use Rattle.ground.specs.Search.{byTest}
 use Rattle.stream.specs.Fields.{part}
 use Rattle.words.specs.declared.Class.{Class}
@@ -25,6 +25,16 @@ both false c e = absurd (false≢true e)
 pub second : (b c : Bool) → cond b false c ≡ true → (b ≡ false) × (c ≡ true)
 second true c e = absurd (false≢true e)
 second false c e = (refl, e)
+
+-- the same added on both sides
+pub shifted-leb : (s m n : ℕ) → leb (s + m) (s + n) ≡ leb m n
+shifted-leb s m n =
+    byTest (leb m n)
+    (λ e. let h = leb-true m n e in le-leb (s + m) (s + n) (omega arith) ∙ sym e)
+    (λ e. let h = leb-false m n e in lt-leb (s + m) (s + n) (omega arith) ∙ sym e)
+
+pub shifted-ltb : (s m n : ℕ) → ltb (s + m) (s + n) ≡ ltb m n
+shifted-ltb s m n = let e : suc (s + m) ≡ s + suc m = omega arith in rw e (shifted-leb s (suc m) n)
 
 -- ---- runs of one class
 
@@ -61,11 +71,8 @@ module _ (k : Class) where
   front-within [] r = le-ltb (front k r) 0 (omega arith)
   front-within (c ∷ cs) r =
       byTest (isIn k c)
-      (λ e. rw e (one-more (front k (cs ++ r)) (length cs) ∙ front-within cs r))
+      (λ e. let n : suc (length cs) ≡ 1 + length cs = omega arith in rw (e, n) (shifted-ltb 1 (front k (cs ++ r)) (length cs) ∙ front-within cs r))
       (λ e. rw e (lt-ltb 0 (suc (length cs)) (omega arith)))
-    where
-      one-more : (m n : ℕ) → ltb (1 + m) (suc n) ≡ ltb m n
-      one-more m n = byTest (ltb m n) (λ e. let h = ltb-true m n e in lt-ltb (1 + m) (suc n) (omega arith) ∙ sym e) (λ e. let h = ltb-false m n e in le-ltb (1 + m) (suc n) (omega arith) ∙ sym e)
 
 -- no plain letter follows: a blank letter, `#` or the end
 stopped-is : (r : List ℕ) → eqb (front Plain r) 0 ≡ stopped r

@@ -8,7 +8,7 @@ use Prim.Native.Char.{code}
 use native.Mathlib.Omega.{arith}
 use lib.Dec.{eqb, ltb, leb}
 use lib.ListN.{length, drop}
-use borrow.Author.Tests.{eqb-true, eq-eqb, ne-eqb, ltb-true, ltb-false, leb-true, leb-false, lt-ltb, le-ltb}
+use borrow.Author.Tests.{eqb-true, eq-eqb, ne-eqb, leb-true, leb-false}
 use Rattle.ground.specs.Search.{byTest}
 use Rattle.ground.specs.Rows.{digits}
 use Rattle.printout.specs.Text.{letters}
@@ -22,7 +22,7 @@ use Rattle.words.specs.declared.Expected.the-variants.{Function as AFunction}
 use Rattle.words.specs.Letters.{front}
 use Rattle.grammar.specs.Lines.{every, plain}
 use Rattle.grammar.specs.Means.{Numeral, Function}
-use Rattle.grammar.specs.LetterLaws.{front-within, letter-there, part-there}
+use Rattle.grammar.specs.LetterLaws.{shifted-ltb, front-within, letter-there, part-there}
 
 -- v fits exactly where the table has bytes, and says these
 pub record Exact (v : Value) (bytes : Value → List ℕ) (R : List ℕ → Type 0) : Type 0 where
@@ -47,10 +47,7 @@ module _ (v : Value) (bytes : Value → List ℕ) (R : List ℕ → Type 0) wher
 module _ (l : List ℕ) (s : ℕ) (w r : List ℕ) (h : drop s l ≡ w ++ r) where
   -- whether all its letters are of a class
   pub run-ends : (k : Class) → ltb (s + front k (drop s l)) (s + length w) ≡ not (every k w)
-  run-ends k = shifted (front k (drop s l)) (length w) ∙ ap (λ (x : List ℕ). ltb (front k x) (length w)) h ∙ front-within k w r
-    where
-      shifted : (m n : ℕ) → ltb (s + m) (s + n) ≡ ltb m n
-      shifted m n = byTest (ltb m n) (λ e. let x = ltb-true m n e in lt-ltb (s + m) (s + n) (omega arith) ∙ sym e) (λ e. let x = ltb-false m n e in le-ltb (s + m) (s + n) (omega arith) ∙ sym e)
+  run-ends k = shifted-ltb s (front k (drop s l)) (length w) ∙ ap (λ (x : List ℕ). ltb (front k x) (length w)) h ∙ front-within k w r
 
   number-read : (e : Expected) (limit : ℕ) → numberValue e limit l s (s + length w) ≡ cond (not (every Digit w)) (wrong (s + front Digit (drop s l)) e) (numberFound e s (upTo limit (decimalValue w)))
   unfolding numberValue
