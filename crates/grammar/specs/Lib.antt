@@ -1,0 +1,17 @@
+pub mod Lines
+pub mod Means
+pub mod Says
+pub mod LetterLaws
+pub mod LineLaws
+pub mod Splitting
+pub mod NumberLaws
+pub mod BytesLaws
+pub mod MeansLaws
+pub mod ReadLaws
+pub mod CommandLaws
+pub mod NameLaws
+pub mod RawLaws
+pub mod Exact
+pub mod Printed
+pub mod Written
+pub mod Examples
