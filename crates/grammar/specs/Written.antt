@@ -1,4 +1,4 @@
--- Lines and the stream's values. What a line says is a command's value; and what the stream says, a line can say, if the function is t, r or s and the data are at most 65500 bytes.
+-- What the stream says, a line can say, if the function is t, r or s and the data are at most 65500 bytes.
 use mathlib.Core.Path.{_≡_, refl, sym, ap, _∙_, subst}
 use mathlib.Core.Bool.{Bool, true, false, cond, false≢true}
 use mathlib.Core.Logic.{_⊎_, inl, inr}
@@ -33,47 +33,10 @@ use Rattle.grammar.specs.LetterLaws.{both}
 use Rattle.grammar.specs.NameLaws.{same-true}
 use Rattle.grammar.specs.Printed.{printed-bytes, printed-number}
 
--- ---- what a line says is a command's value
-
-module _ (kept ends l : List ℕ) (a : Request) (d : Bytes) (h : Commands kept ends l a d) where
-  its-word : (ks : List ℕ) (ps : List Piece) → Each kept ends ks ps a d → (k : ℕ) → among k ks ≡ true → (p : Piece) × Means kept ends k p (argument k a d)
-  unfolding among
-  its-word [] ps e k x = absurd (false≢true x)
-  its-word (j ∷ ks) [] e k x = absurd e
-  its-word (j ∷ ks) (p ∷ ps) e k x =
-      byTest (eqb k j)
-      (λ q. rw (eqb-true k j q) (p, e .0))
-      (λ q. its-word ks ps (e .1) k (rw q at x))
-
-  data-short : (p : Piece) → Data kept ends p d → length d ≤ 65500
-  data-short (plain w) x = x .1
-  data-short (text w) x = x .1
-
-  short-data : length d ≤ 65500
-  unfolding Means argument
-  short-data =
-      byTest (among 0x87 (h .arguments))
-      (λ x. let p = its-word (h .arguments) (h .words) (h .fields) 0x87 x in data-short (p .0) (p .1))
-      (λ x. omega (arith, ap length (h .absent 0x87 x)))
-
-  pub line-spells : Spells (a .tag) (spelt (h .arguments) a d) a d
-  line-spells =
-      record {
-        arguments = h .arguments;
-        known = h .known;
-        value = refl;
-        tagged = refl;
-        issued = h .sound .issued;
-        partied = h .sound .partied;
-        eight = h .sound .eight;
-        short = omega (arith, short-data);
-        absent = h .absent;
-      }
-
 -- ---- the line of a command
 
 -- data in hex digits; no data as a text without letters
-dataWord : Bytes → Piece
+unfoldable pub dataWord : Bytes → Piece
 dataWord [] = text []
 dataWord (b ∷ bs) = plain (hex (b ∷ bs))
 
@@ -149,7 +112,7 @@ some-digit n h =
 decimal-formed : (n : ℕ) → n < 10 ^ 20 → formed (plain (decimal n)) ≡ true
 decimal-formed n h = class-formed Digit digit-high (decimal n) (some-digit n h) (printed-number n n (omega arith) h .digit)
 
-hex-length : (bs : List ℕ) → length (hex bs) ≡ 2 * length bs
+pub hex-length : (bs : List ℕ) → length (hex bs) ≡ 2 * length bs
 unfolding hex hexByte
 hex-length [] = refl
 hex-length (b ∷ bs) = let i = hex-length bs in omega arith
@@ -231,25 +194,26 @@ module _ (kept ends : List ℕ) (t : ℕ) (all : List ℕ) (a : Request) (d : By
       among-later : (j m : ℕ) (b : Bool) → b ≡ true → cond (eqb j m) true b ≡ true
       among-later j m b x = byTest (eqb j m) (λ e. rw e) (λ e. rw (e, x))
 
--- ---- the commands' names are words in capital letters
+-- ---- the commands' names are words in capital letters, of at most six
 
-in-capitals : List Form → Bool
+pub in-capitals : List Form → Bool
 in-capitals [] = true
-in-capitals (r ∷ rs) = cond (formed (plain (name (r .tag)))) (cond (sameName (name (r .tag)) (name (r .tag))) (in-capitals rs) false) false
+in-capitals (r ∷ rs) = cond (formed (plain (name (r .tag)))) (cond (sameName (name (r .tag)) (name (r .tag))) (cond (leb (length (name (r .tag))) 6) (in-capitals rs) false) false) false
 
-commands-in-capitals : in-capitals commands ≡ true
+pub commands-in-capitals : in-capitals commands ≡ true
 unfolding in-capitals formed every isIn blankLetter name sameName capital between
 commands-in-capitals = refl
 
-name-good : (t : ℕ) (ks : List ℕ) (rs : List Form) → argumentsIn t rs ≡ some ks → in-capitals rs ≡ true → (formed (plain (name t)) ≡ true) × (map capital (name t) ≡ name t)
+pub name-good : (t : ℕ) (ks : List ℕ) (rs : List Form) → argumentsIn t rs ≡ some ks → in-capitals rs ≡ true → (formed (plain (name t)) ≡ true) × (map capital (name t) ≡ name t) × (length (name t) ≤ 6)
 unfolding in-capitals
 name-good t ks [] e h = absurd (Option·none-ne-some ks e)
 name-good t ks (r ∷ rs) e h =
     let x = both (formed (plain (name (r .tag)))) _ h in
-    let y = both (sameName (name (r .tag)) (name (r .tag))) (in-capitals rs) (x .1) in
+    let y = both (sameName (name (r .tag)) (name (r .tag))) _ (x .1) in
+    let z = both (leb (length (name (r .tag))) 6) (in-capitals rs) (y .1) in
     byTest (eqb t (r .tag))
-    (λ f. rw (eqb-true t (r .tag) f) (x .0, same-true (name (r .tag)) (name (r .tag)) (y .0)))
-    (λ f. name-good t ks rs (rw f at e) (y .1))
+    (λ f. rw (eqb-true t (r .tag) f) (x .0, same-true (name (r .tag)) (name (r .tag)) (y .0), leb-true (length (name (r .tag))) 6 (z .0)))
+    (λ f. name-good t ks rs (rw f at e) (z .1))
 
 -- ---- a value in bytes has its fields in bytes
 
