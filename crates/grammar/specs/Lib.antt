@@ -13,5 +13,7 @@ pub mod NameLaws
 pub mod RawLaws
 pub mod Exact
 pub mod Printed
+pub mod Streamed
 pub mod Written
+pub mod Room
 pub mod Examples

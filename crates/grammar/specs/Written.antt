@@ -1,14 +1,15 @@
--- What the stream can say, a line can say: a command whose function, if it has one, is t, r or s, and whose data are at most 65500 bytes.
+-- What the stream says, a line can say, if the function is t, r or s and the data are at most 65500 bytes.
 use mathlib.Core.Path.{_≡_, refl, sym, ap, _∙_, subst}
-use mathlib.Core.Bool.{Bool, true, false, cond}
+use mathlib.Core.Bool.{Bool, true, false, cond, false≢true}
 use mathlib.Core.Logic.{_⊎_, inl, inr}
 use mathlib.Core.Option.{some, Option·none-ne-some}
 use mathlib.Core.List.{List, [], _∷_, _++_, map, head-eq-of-cons-eq}
-use Prim.Native.Nat.{ℕ, _+_, _*_, _/_, _%_, _^_, _≤_, _<_}
+use Prim.Native.Nat.{ℕ, zero, suc, _+_, _*_, _/_, _%_, _^_, _≤_, _<_}
 use Prim.Native.Char.{code}
 use native.Mathlib.Omega.{arith}
 use lib.Dec.{eqb, ltb, leb}
 use lib.ListN.{length, length-append}
+use lib.Seq.{getD-append-add}
 use borrow.Author.Tests.{eqb-true, eq-eqb, ne-eqb, leb-true, ltb-true, ltb-false}
 use Rattle.ground.specs.Search.{byTest}
 use Rattle.ground.specs.Lists.{Below}
@@ -17,9 +18,9 @@ use Rattle.names.specs.Names.{capital, sameName, name}
 use Rattle.printout.specs.Digits.{hexByte, hex, decimal, decimal-last, decimal-step}
 use Rattle.printout.specs.Text.{letters}
 use Rattle.stream.specs.declared.Request.{Request}
-use Rattle.stream.specs.Fields.{Bytes}
+use Rattle.stream.specs.Fields.{Bytes, field}
 use Rattle.stream.specs.Commands.{Row as Form, commands, argumentsIn, argumentsOf, blank}
-use Rattle.stream.specs.Grammar.{argument, among, Spells}
+use Rattle.stream.specs.Grammar.{spelled as spelt, argument, among, Spells}
 use Rattle.stream.specs.RequestLaws.{each, Sound}
 use Rattle.stream.specs.GrammarLaws.{ascending, above, up-to, later, arguments-ordered}
 use Rattle.words.specs.declared.Class.{Class}
@@ -35,7 +36,7 @@ use Rattle.grammar.specs.Printed.{printed-bytes, printed-number}
 -- ---- the line of a command
 
 -- data in hex digits; no data as a text without letters
-dataWord : Bytes → Piece
+unfoldable pub dataWord : Bytes → Piece
 dataWord [] = text []
 dataWord (b ∷ bs) = plain (hex (b ∷ bs))
 
@@ -111,7 +112,7 @@ some-digit n h =
 decimal-formed : (n : ℕ) → n < 10 ^ 20 → formed (plain (decimal n)) ≡ true
 decimal-formed n h = class-formed Digit digit-high (decimal n) (some-digit n h) (printed-number n n (omega arith) h .digit)
 
-hex-length : (bs : List ℕ) → length (hex bs) ≡ 2 * length bs
+pub hex-length : (bs : List ℕ) → length (hex bs) ≡ 2 * length bs
 unfolding hex hexByte
 hex-length [] = refl
 hex-length (b ∷ bs) = let i = hex-length bs in omega arith
@@ -134,8 +135,8 @@ unfolding digits
 one-byte n h = let e : n / 1 % 256 ≡ n = omega arith in ap (λ (m : ℕ). m ∷ []) e
 
 -- a request of the fields ks that a line can say: in bytes, with a function that the page has, and not too much data
-pub record Sayable (ks : List ℕ) (a : Request) (d : Bytes) : Type 0 where
-  pub bytes : (k : ℕ) → Below 256 (argument k a d)
+record Sayable (ks : List ℕ) (a : Request) (d : Bytes) : Type 0 where
+  pub bytes : (k : ℕ) → among k ks ≡ true → Below 256 (argument k a d)
   pub function : among 0x84 ks ≡ true → OneOf (a .function)
   pub short : length d ≤ 65500
 
@@ -162,13 +163,13 @@ module _ (kept ends : List ℕ) (t : ℕ) (all : List ℕ) (a : Request) (d : By
       (λ x. let h = sound .issued in numeral-good 4 4294967295 (a .issuer) (omega arith) (omega arith))
       (λ x. let h = sound .partied in numeral-good 4 4294967295 (a .party) (omega arith) (omega arith))
       (λ x.
-      let h = s .bytes 0x83 0 in
+      let h = s .bytes 0x83 x 0 in
       subst (λ (b : List ℕ). (formed (plain (decimal (a .interchange))) ≡ true) × Numeral 1 255 (plain (decimal (a .interchange))) b) (one-byte (a .interchange) h)
       (numeral-good 1 255 (a .interchange) (omega arith) (omega arith)))
       (λ x. (function-formed (a .function) (s .function x), (s .function x, refl)))
-      (λ x. block-good (a .block) (sound .eight .0) (s .bytes 0x85))
-      (λ x. block-good (a .second) (sound .eight .1) (s .bytes 0x86))
-      (λ x. data-good d (s .short) (s .bytes 0x87))
+      (λ x. block-good (a .block) (sound .eight .0) (s .bytes 0x85 x))
+      (λ x. block-good (a .second) (sound .eight .1) (s .bytes 0x86 x))
+      (λ x. data-good d (s .short) (s .bytes 0x87 x))
 
   -- ---- the line
 
@@ -193,31 +194,53 @@ module _ (kept ends : List ℕ) (t : ℕ) (all : List ℕ) (a : Request) (d : By
       among-later : (j m : ℕ) (b : Bool) → b ≡ true → cond (eqb j m) true b ≡ true
       among-later j m b x = byTest (eqb j m) (λ e. rw e) (λ e. rw (e, x))
 
--- ---- the commands' names are words in capital letters
+-- ---- the commands' names are words in capital letters, of at most six
 
-in-capitals : List Form → Bool
+pub in-capitals : List Form → Bool
 in-capitals [] = true
-in-capitals (r ∷ rs) = cond (formed (plain (name (r .tag)))) (cond (sameName (name (r .tag)) (name (r .tag))) (in-capitals rs) false) false
+in-capitals (r ∷ rs) = cond (formed (plain (name (r .tag)))) (cond (sameName (name (r .tag)) (name (r .tag))) (cond (leb (length (name (r .tag))) 6) (in-capitals rs) false) false) false
 
-commands-in-capitals : in-capitals commands ≡ true
+pub commands-in-capitals : in-capitals commands ≡ true
 unfolding in-capitals formed every isIn blankLetter name sameName capital between
 commands-in-capitals = refl
 
-name-good : (t : ℕ) (ks : List ℕ) (rs : List Form) → argumentsIn t rs ≡ some ks → in-capitals rs ≡ true → (formed (plain (name t)) ≡ true) × (map capital (name t) ≡ name t)
+pub name-good : (t : ℕ) (ks : List ℕ) (rs : List Form) → argumentsIn t rs ≡ some ks → in-capitals rs ≡ true → (formed (plain (name t)) ≡ true) × (map capital (name t) ≡ name t) × (length (name t) ≤ 6)
 unfolding in-capitals
 name-good t ks [] e h = absurd (Option·none-ne-some ks e)
 name-good t ks (r ∷ rs) e h =
     let x = both (formed (plain (name (r .tag)))) _ h in
-    let y = both (sameName (name (r .tag)) (name (r .tag))) (in-capitals rs) (x .1) in
+    let y = both (sameName (name (r .tag)) (name (r .tag))) _ (x .1) in
+    let z = both (leb (length (name (r .tag))) 6) (in-capitals rs) (y .1) in
     byTest (eqb t (r .tag))
-    (λ f. rw (eqb-true t (r .tag) f) (x .0, same-true (name (r .tag)) (name (r .tag)) (y .0)))
-    (λ f. name-good t ks rs (rw f at e) (y .1))
+    (λ f. rw (eqb-true t (r .tag) f) (x .0, same-true (name (r .tag)) (name (r .tag)) (y .0), leb-true (length (name (r .tag))) 6 (z .0)))
+    (λ f. name-good t ks rs (rw f at e) (z .1))
+
+-- ---- a value in bytes has its fields in bytes
+
+below-left : (xs ys : List ℕ) → Below 256 (xs ++ ys) → Below 256 xs
+below-left [] ys h i = omega arith
+below-left (x ∷ xs) ys h zero = h 0
+below-left (x ∷ xs) ys h (suc i) = below-left xs ys (λ j. h (suc j)) i
+
+below-right : (xs ys : List ℕ) → Below 256 (xs ++ ys) → Below 256 ys
+below-right xs ys h i = subst (λ (c : ℕ). c < 256) (getD-append-add xs ys i 0) (h (length xs + i))
+
+field-bytes : (a : Request) (d : Bytes) (ks : List ℕ) → Below 256 (spelt ks a d) → (k : ℕ) → among k ks ≡ true → Below 256 (argument k a d)
+unfolding spelt among
+field-bytes a d [] h k x = absurd (false≢true x)
+field-bytes a d (j ∷ ks) h k x =
+    let v = argument j a d in
+    byTest (eqb k j)
+    (λ q. rw (eqb-true k j q) (below-right (j ∷ digits 256 2 (length v)) v (below-left (field j v) (spelt ks a d) h)))
+    (λ q. field-bytes a d ks (below-right (field j v) (spelt ks a d) h) k (rw q at x))
 
 -- what the stream says is said by a line
-pub written-says : (kept ends : List ℕ) (t : ℕ) (v : Bytes) (a : Request) (d : Bytes) (h : Spells t v a d) → Sayable (h .arguments) a d → Commands kept ends (written (h .arguments) a d) a d
+pub written-says : (kept ends : List ℕ) (t : ℕ) (v : Bytes) (a : Request) (d : Bytes) (h : Spells t v a d) → Below 256 v
+    → (among 0x84 (h .arguments) ≡ true → OneOf (a .function)) → length d ≤ 65500 → Commands kept ends (written (h .arguments) a d) a d
 unfolding written argumentsOf every
-written-says kept ends t v a d h s =
+written-says kept ends t v a d h bytes function short =
     let ks = h .arguments in
+    let s : Sayable ks a d = record { bytes = field-bytes a d ks (subst (Below 256) (h .value) bytes); function = function; short = short } in
     let known : argumentsOf (a .tag) ≡ some ks = ap argumentsOf (h .tagged) ∙ h .known in
     let n = name-good (a .tag) ks commands known commands-in-capitals in
     let sound : Sound (a .tag) a = record { tagged = refl; issued = h .issued; partied = h .partied; eight = h .eight } in
