@@ -1,4 +1,4 @@
--- "A line has at most 65536 letters": one that has more is wrong after them, where it is not wrong before.
+-- "A line has at most 131072 letters": one that has more is wrong after them, where it is not wrong before.
 use mathlib.Core.Bool.{Bool, false, cond}
 use mathlib.Core.List.{List}
 use Prim.Native.Nat.{ℕ}

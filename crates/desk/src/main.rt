@@ -56,7 +56,7 @@ fn serve(asks: bool, line: &mut [u8], table: &mut [u8], out: &mut [u8], kept: &m
 }
 
 fn main() {
-    let mut line = [0u8; 65536];
+    let mut line = [0u8; 131072];
     let mut table = [0xFFu8; 768];
     let mut out = [0u8; 32768];
     let mut kept = room();

@@ -1,4 +1,4 @@
--- The line of a command finds room in the 65536 letters that a line may have, if the data are at most 32700 bytes.
+-- The line of a command finds room in the 131072 letters that a line may have, if the data are at most 65480 bytes; a facility takes 32768.
 use mathlib.Core.Path.{_≡_, sym, ap, subst}
 use mathlib.Core.Bool.{true}
 use mathlib.Core.List.{List, [], _∷_}
@@ -66,7 +66,7 @@ module _ (t : ℕ) (a : Request) (d : Bytes) (sound : Sound t a) where
       let w = word-length k (omega arith) (up-to n k ks up) (omega (arith, up-to n k ks up, eqb-false k 0x87 e)) in
       omega (arith, w, i, length-append (spelled (wordFor k a d)) (spaced ks a d)))
 
-pub written-room : (t : ℕ) (v : Bytes) (a : Request) (d : Bytes) (h : Spells t v a d) → length d ≤ 32700 → length (written (h .arguments) a d) ≤ 65536
+pub written-room : (t : ℕ) (v : Bytes) (a : Request) (d : Bytes) (h : Spells t v a d) → length d ≤ 65480 → length (written (h .arguments) a d) ≤ 131072
 unfolding written argumentsOf
 written-room t v a d h short =
     let ks = h .arguments in

@@ -47,7 +47,7 @@ fn write_lines(line: &mut [u8], table: &mut [u8], out: &mut [u8], kept: &mut [u8
 }
 
 fn main() {
-    let mut line = [0u8; 65536];
+    let mut line = [0u8; 131072];
     let mut table = [0xFFu8; 768];
     let mut out = [0u8; 32768];
     let mut kept = room();
