@@ -16,4 +16,5 @@ pub mod Printed
 pub mod Streamed
 pub mod Written
 pub mod Room
+pub mod Columns
 pub mod Examples
