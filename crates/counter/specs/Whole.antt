@@ -26,7 +26,7 @@ noFeed (x ∷ xs) = cond (eqb x (code "\n")) false (noFeed xs)
 abbrev begun : List ℕ → ℕ → Bool → Partly
 begun b m longer = record { letters = page b m; longer = longer; complete = false }
 
--- the same, from a line that has begun
+-- what is proved below, of a line that has begun
 abbrev Heard : List ℕ → List ℕ → ℕ → Bool → Type 0
 Heard l b m longer = allMore (l ++ (code "\n" ∷ [])) (begun b m longer) ≡ record { letters = entered l (page b m); longer = cond (ltb (length b - m) (length l)) true longer; complete = true }
 
