@@ -1,12 +1,12 @@
--- "A line has at most 65536 letters": one that has more is wrong after them, where it is not wrong before.
+-- "A line has at most 131072 letters": one that has more is wrong after them, where it is not wrong before.
 use mathlib.Core.Bool.{Bool, false, cond}
 use mathlib.Core.List.{List}
 use Prim.Native.Nat.{ℕ}
 use lib.Dec.{ltb}
 use lib.ListN.{length}
 use Rattle.words.specs.declared.Expected.the-variants.{NothingMore}
-use Rattle.words.specs.declared.Line.{Line}
-use Rattle.words.specs.Line.{lineOf}
+use Rattle.reader.specs.declared.Line.{Line}
+use Rattle.reader.specs.Reader.{lineOf}
 
 unfoldable pub wrongBefore : Line → ℕ → Bool
 wrongBefore r n = cond (r .fits) false (ltb (r .at) n)

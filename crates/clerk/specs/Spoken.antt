@@ -6,10 +6,10 @@ use Prim.Native.Nat.{ℕ}
 use lib.ListN.{take, replicate}
 use Rattle.printout.specs.Page.{Page, page, entered}
 use Rattle.encoder.specs.Encoded.{encoded}
-use Rattle.words.specs.declared.Line.{Line}
-use Rattle.words.specs.declared.Says.{Says}
-use Rattle.words.specs.declared.Says.the-variants.{Nothing, Command, Raw, Help, Who, Quit}
-use Rattle.words.specs.Values.{meant}
+use Rattle.reader.specs.declared.Line.{Line}
+use Rattle.names.specs.declared.Says.{Says}
+use Rattle.names.specs.declared.Says.the-variants.{Nothing, Command, Raw, Help, Who, Quit}
+use Rattle.values.specs.Sources.{meant}
 use Rattle.clerk.specs.Filled.{put-fresh}
 
 -- a command's data is at most 65500 bytes; a field of more than 65535 is not written

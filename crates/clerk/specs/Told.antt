@@ -5,9 +5,9 @@ use Prim.Native.Nat.{ℕ}
 use Rattle.state.specs.declared.Place.{Place}
 use Rattle.talk.specs.Help.{help}
 use Rattle.talk.specs.Who.{who}
-use Rattle.words.specs.declared.Line.{Line}
-use Rattle.words.specs.declared.Says.{Says}
-use Rattle.words.specs.declared.Says.the-variants.{Nothing, Command, Raw, Help, Who, Quit}
+use Rattle.reader.specs.declared.Line.{Line}
+use Rattle.names.specs.declared.Says.{Says}
+use Rattle.names.specs.declared.Says.the-variants.{Nothing, Command, Raw, Help, Who, Quit}
 use Rattle.clerk.specs.Wrong.{wrongText}
 
 -- a command and raw bytes are answered by the facility

@@ -5,9 +5,9 @@ ghost use Rattle.clerk.specs.Spoken.{commandBytes, spoken};
 
 use encoder::put_command;
 use printout::page::first_of;
-use words::Line;
-use words::Says;
-use words::sources::put_meant;
+use reader::Line;
+use names::Says;
+use values::sources::put_meant;
 
 fn put_said(piece: &mut [u8], said: Line, line: &[u8], kept: &[u8]) -> usize
     ensures { λ r. ⌜ page (now (piece .exit)) r ≡ entered (commandBytes said (now (line .entry)) (now (kept .entry))) (page (now (piece .entry)) 0) ⌝ }

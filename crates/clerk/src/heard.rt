@@ -3,8 +3,8 @@ ghost use mathlib.Core.Path.{_≡_};
 ghost use Rattle.clerk.specs.Heard.{wrongBefore, cutAt, heard};
 
 use words::Expected;
-use words::Line;
-use words::reader::read_line;
+use reader::Line;
+use reader::reader::read_line;
 
 fn wrong_before(said: Line, n: usize) -> bool
     ensures { λ r. ⌜ r ≡ wrongBefore said n ⌝ }

@@ -7,8 +7,8 @@ use crate::wrong::put_wrong;
 use state::Facility;
 use talk::help::put_help;
 use talk::who::put_who;
-use words::Line;
-use words::Says;
+use reader::Line;
+use names::Says;
 
 // What is wrong with a bad line, whose number is given; who is active, in this state; help; and nothing for the others.
 pub fn put_told(paper: &mut [u8], at: usize, number: usize, said: Line, state: Facility) -> usize

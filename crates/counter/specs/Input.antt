@@ -6,7 +6,7 @@ use Prim.Native.Char.{code}
 use lib.Dec.{eqb, ltb}
 use lib.ListN.{length}
 use Rattle.printout.specs.Page.{Page, page, letter}
-use Rattle.words.specs.declared.Line.{Line}
+use Rattle.reader.specs.declared.Line.{Line}
 use Rattle.clerk.specs.Told.{isQuit}
 use Rattle.counter.specs.declared.input.Got.{Got}
 

@@ -4,7 +4,7 @@ ghost use Rattle.counter.specs.Input.{partly, oneMore, isLast};
 
 use clerk::told::is_quit;
 use printout::page::put;
-use words::Line;
+use reader::Line;
 
 // A line as far as it has come: how many of its letters are there, whether it has more than found room, and whether its line feed has come.
 pub struct Got {

@@ -11,7 +11,7 @@ use counter::service::carry_out;
 use io::write_all;
 use printout::page::first_of;
 use state::places::fresh_facility;
-use words::Line;
+use reader::Line;
 
 // On a terminal the desk greets and asks for each line; in a pipe it only answers.
 fn at_terminal() -> bool {
@@ -56,7 +56,7 @@ fn serve(asks: bool, line: &mut [u8], table: &mut [u8], out: &mut [u8], kept: &m
 }
 
 fn main() {
-    let mut line = [0u8; 65536];
+    let mut line = [0u8; 131072];
     let mut table = [0xFFu8; 768];
     let mut out = [0u8; 32768];
     let mut kept = room();

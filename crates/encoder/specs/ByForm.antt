@@ -13,7 +13,7 @@ use borrow.Author.Tests.{eqb-true, ne-eqb, lt-ltb, le-ltb, leb-true, leb-false}
 use Rattle.ground.specs.Lists.{padded}
 use Rattle.ground.specs.Rows.{digits, digits-length}
 use Rattle.ground.specs.Search.{byTest}
-use Rattle.printout.specs.Page.{Page, entered}
+use Rattle.printout.specs.Page.{Page, entered, two}
 use Rattle.stream.specs.declared.Request.{Request}
 use Rattle.stream.specs.declared.Form.{Form}
 use Rattle.stream.specs.Fields.{Bytes, field}
@@ -22,7 +22,7 @@ use Rattle.stream.specs.Commands.{argumentsOf, formOf}
 use Rattle.stream.specs.Grammar.{argument, spelled}
 use Rattle.stream.specs.GrammarLaws.{ascending, above, later, arguments-ordered}
 use Rattle.encoder.specs.Encoded.{encodedWith, encoded}
-use Rattle.encoder.specs.Written.{oneField, allFields, oneSize, allSizes, formSize, after}
+use Rattle.encoder.specs.Written.{oneField, allFields, oneSize, allSizes, formSize}
 
 -- ---- the argument fields, without those that are none
 
@@ -162,6 +162,6 @@ module _ (a : Request) (d x : Bytes) (f : Form) (n : ℕ) (eight : (length (a .b
 
   pub put-whole : (p q r : Page) → n < 65536 → q ≡ entered (a .tag ∷ digits 256 2 n) p → r ≡ entered (allFields (f .arguments) a d) q → r ≡ entered (encoded a d) p
   put-whole p q r l e e′ =
-      after (a .tag ∷ digits 256 2 n) (allFields (f .arguments) a d) p q r e e′
+      two (a .tag ∷ digits 256 2 n) (allFields (f .arguments) a d) p q r e′ e
       ∙ ap₂ (λ (m : ℕ) (g : Form). entered ((a .tag ∷ digits 256 2 m) ++ allFields (g .arguments) a d) p) same-size form
       ∙ ap (λ (y : Bytes). entered y p) (sym (whole a d eight (omega (arith, same-size))))

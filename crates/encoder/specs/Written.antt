@@ -42,10 +42,6 @@ allSizes (k ∷ ks) n = oneSize k n + allSizes ks n
 unfoldable pub formSize : Form → ℕ → ℕ
 formSize f n = cond (f .known) (allSizes (f .arguments) n) 65536
 
--- one text after another
-pub after : (xs ys : Bytes) (p q r : Page) → q ≡ entered xs p → r ≡ entered ys q → r ≡ entered (xs ++ ys) p
-after xs ys p q r e f = f ∙ ap (entered ys) e ∙ sym (then xs ys p)
-
 -- ---- one argument more, as a loop puts and counts them
 
 pub fields-step : (ks : List ℕ) (a : Request) (d : Bytes) (i : ℕ) (p : Page) → i < length ks

@@ -2,3 +2,4 @@ pub mod Page
 pub mod Digits
 pub mod Lines
 pub mod Text
+pub mod Rows

@@ -1,10 +1,10 @@
 -- "One line per command, with single spaces: ordinal from 1, tag (two hex digits), reply number, the bytes returned or, for a mode, written, or "-" for none."
-use mathlib.Core.Path.{_≡_, refl, sym, ap, _∙_}
+use mathlib.Core.Path.{_≡_, refl}
 use mathlib.Core.List.{List, [], _∷_, _++_}
 use Prim.Native.Nat.{ℕ}
 use native.Mathlib.Omega.{arith}
 use lib.ListN.{length}
-use Rattle.printout.specs.Page.{Page, entered, then}
+use Rattle.printout.specs.Page.{Page, entered, two}
 use Rattle.printout.specs.Digits.{hexByte, hex, decimal}
 
 abbrev space : ℕ
@@ -30,10 +30,6 @@ pub shown-some : (bs : List ℕ) → (length bs ≡ 0 → ⊥) → shown bs ≡ 
 unfolding shown
 shown-some [] h = absurd (h refl)
 shown-some (b ∷ bs) h = refl
-
--- a text entered in two parts
-two : (xs ys : List ℕ) (p q r : Page) → r ≡ entered ys q → q ≡ entered xs p → r ≡ entered (xs ++ ys) p
-two xs ys p q r f e = f ∙ ap (entered ys) e ∙ sym (then xs ys p)
 
 -- a line, part by part
 pub by-parts : (ordinal tag reply : ℕ) (bs : List ℕ) (p p₁ p₂ p₃ p₄ p₅ p₆ p₇ p₈ : Page)

@@ -1,5 +1,5 @@
 -- A page: a buffer, and how far it is filled.
-use mathlib.Core.Path.{_≡_, refl, ap, _∙_}
+use mathlib.Core.Path.{_≡_, refl, sym, ap, _∙_}
 use mathlib.Core.Bool.{Bool, true, false, cond}
 use mathlib.Core.List.{List, [], _∷_, _++_}
 use Prim.Native.Nat.{ℕ, _+_, _≤_, _<_}
@@ -29,6 +29,10 @@ pub then : (xs ys : List ℕ) (p : Page) → entered (xs ++ ys) p ≡ entered ys
 unfolding entered
 then [] ys p = refl
 then (x ∷ xs) ys p = then xs ys (letter x p)
+
+-- a text entered in two parts
+pub two : (xs ys : List ℕ) (p q r : Page) → r ≡ entered ys q → q ≡ entered xs p → r ≡ entered (xs ++ ys) p
+two xs ys p q r f e = f ∙ ap (entered ys) e ∙ sym (then xs ys p)
 
 -- one letter of a text, and the rest
 pub enter-step : (xs : List ℕ) (i : ℕ) (p : Page) → i < length xs → entered (drop i xs) p ≡ entered (drop (i + 1) xs) (entered (getD xs i 0 ∷ []) p)

@@ -65,3 +65,34 @@ unfolding ranFrom
 in-turn cs h w out =
     in-turn-from (sent cs) cs [] 0 h (sym (append-nil (sent cs))) w out
     ∙ same-last cs _ _ (λ w′ out′. nothing-left (length (sent cs)) (sent cs) w′ out′ (0 + length (sent cs)) (omega arith)) w out
+
+-- ---- a stream in two parts, as a desk carries out one line after the other
+
+-- what one part leaves and answers, and then what the next does in the world that it left
+unfoldable pub next : Ran → (World → Bytes → Ran) → Ran
+next r more = ran (more (r .world) (r .output) .world) (more (r .world) (r .output) .output) (r .answers ++ more (r .world) (r .output) .answers)
+
+sent-parts : (cs ds : List Sent) → sent (cs ++ ds) ≡ sent cs ++ sent ds
+unfolding sent
+sent-parts [] ds = refl
+sent-parts (c ∷ cs) ds = ap (λ (rest : Bytes). field (c .tag) (c .value) ++ rest) (sent-parts cs ds) ∙ sym (append-assoc (field (c .tag) (c .value)) (sent cs) (sent ds))
+
+short-parts : (cs ds : List Sent) → Short cs → Short ds → Short (cs ++ ds)
+short-parts [] ds h k = k
+short-parts (c ∷ cs) ds h k = (h .0, short-parts cs ds (h .1) k)
+
+in-turn-parts : (cs ds : List Sent) (last : World → Bytes → Ran) (w : World) (out : Bytes)
+    → inTurn (cs ++ ds) last w out ≡ next (inTurn cs (λ w′ out′. ran w′ out′ []) w out) (inTurn ds last)
+unfolding inTurn next
+in-turn-parts [] ds last w out = refl
+in-turn-parts (c ∷ cs) ds last w out = ap (after (answered (c .tag) (answerTo w (c .tag) (c .value) out .answered))) (in-turn-parts cs ds last _ _)
+
+-- commands, and behind them other commands: the answers are those of the first part, and then those of the second, begun where the first ended
+pub in-parts : (cs ds : List Sent) → Short cs → Short ds → (w : World) (out : Bytes)
+    → ranFrom (sent cs ++ sent ds) w out 0 ≡ next (ranFrom (sent cs) w out 0) (λ w′ out′. ranFrom (sent ds) w′ out′ 0)
+unfolding next
+in-parts cs ds h k w out =
+    ap (λ (s : Bytes). ranFrom s w out 0) (sym (sent-parts cs ds))
+    ∙ in-turn (cs ++ ds) (short-parts cs ds h k) w out
+    ∙ in-turn-parts cs ds _ w out
+    ∙ rw (in-turn cs h, in-turn ds k)

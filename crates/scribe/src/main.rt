@@ -11,7 +11,7 @@ use counter::service::carry_out;
 use io::write_all;
 use printout::page::first_of;
 use state::places::fresh_facility;
-use words::Line;
+use reader::Line;
 
 fn complain(number: usize, said: Line, paper: &mut [u8]) {
     let expected = said.expected;
@@ -47,7 +47,7 @@ fn write_lines(line: &mut [u8], table: &mut [u8], out: &mut [u8], kept: &mut [u8
 }
 
 fn main() {
-    let mut line = [0u8; 65536];
+    let mut line = [0u8; 131072];
     let mut table = [0xFFu8; 768];
     let mut out = [0u8; 32768];
     let mut kept = room();

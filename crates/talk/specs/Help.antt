@@ -9,9 +9,9 @@ abbrev lines : List String → List ℕ
 lines [] = []
 lines (s ∷ ss) = letters s ++ (code "\n" ∷ lines ss)
 
--- users and their keys
-unfoldable pub userHelp : List ℕ
-userHelp =
+-- users and their keys; records; the officer, and the host; words of a line, and the desk
+unfoldable pub help : List ℕ
+help =
     lines
     ("RAS issuer password                       become active"
     ∷ "LAU issuer                                leave, with all that was loaded"
@@ -22,36 +22,18 @@ userHelp =
     ∷ "LIV issuer t|r|s block                    load an IV: t, r, or s for both"
     ∷ "EIV issuer block                          encipher an IV under transmit key"
     ∷ "RDK issuer party interchange t|r|s block  move a block from old to current key"
-    ∷ [])
-
--- records
-unfoldable pub recordHelp : List ℕ
-recordHelp =
-    lines
-    ("ECBE issuer data                          encipher, ECB"
+    ∷ "ECBE issuer data                          encipher, ECB"
     ∷ "ECBD issuer data                          decipher, ECB"
     ∷ "CBCE issuer data                          encipher, CBC"
     ∷ "CBCD issuer data                          decipher, CBC"
     ∷ "CFBE issuer data                          encipher, 64-bit CFB"
     ∷ "CFBD issuer data                          decipher, 64-bit CFB"
     ∷ "DAUT issuer t|r|s data                    fixity value of a plain record"
-    ∷ [])
-
--- the officer, and the host
-unfoldable pub officerHelp : List ℕ
-officerHelp =
-    lines
-    ("EIK interchange key                       officer: enter an interchange key"
+    ∷ "EIK interchange key                       officer: enter an interchange key"
     ∷ "IPW user password                         officer: enter a password"
     ∷ "RPW                                       officer: move passwords to new key 1"
     ∷ "LOGOUT user                               host: log a user out"
-    ∷ [])
-
--- words of a line, and the desk
-unfoldable pub deskHelp : List ℕ
-deskHelp =
-    lines
-    ("issuer, party, user, interchange          a decimal number"
+    ∷ "issuer, party, user, interchange          a decimal number"
     ∷ "password, bits, block, key                16 hex digits, or $n"
     ∷ "$n                                        the bytes of answer n"
     ∷ "! hex                                     raw bytes of the command stream"
@@ -61,6 +43,3 @@ deskHelp =
     ∷ "help                                      these lines"
     ∷ "quit                                      leave the desk"
     ∷ [])
-
-unfoldable pub help : List ℕ
-help = userHelp ++ (recordHelp ++ (officerHelp ++ deskHelp))

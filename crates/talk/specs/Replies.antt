@@ -4,8 +4,8 @@ use Prim.Native.Nat.{ℕ}
 use Prim.Native.Char.{code}
 use Prim.Native.String.{String}
 use Rattle.printout.specs.Text.{letters}
-use Rattle.talk.specs.Rows.{Row, _reads_, beside}
-use Rattle.talk.specs.Names.{name}
+use Rattle.printout.specs.Rows.{Row, _reads_, beside}
+use Rattle.names.specs.Names.{name}
 
 unfoldable pub refused : List ℕ → List ℕ
 refused why = letters "refused: " ++ why

@@ -1,5 +1,4 @@
 // The desk's answers in words, put onto a lent page.
 pub mod help;
-pub mod names;
 pub mod replies;
 pub mod who;

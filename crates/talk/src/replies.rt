@@ -3,7 +3,7 @@ ghost use mathlib.Core.Path.{_≡_};
 ghost use Rattle.printout.specs.Page.{page, entered};
 ghost use Rattle.talk.specs.Replies.{refused, answer, wordsOf};
 
-use crate::names::put_name;
+use names::by_tag::put_name;
 use printout::page::put;
 use printout::page::put_all;
 

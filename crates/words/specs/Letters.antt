@@ -2,7 +2,7 @@
 use mathlib.Core.Path.{_≡_, refl, sym, ap, _∙_}
 use mathlib.Core.Bool.{Bool, true, false, cond, not}
 use mathlib.Core.List.{List, [], _∷_}
-use Prim.Native.Nat.{ℕ, suc, _+_, _-_, _≤_, _<_}
+use Prim.Native.Nat.{ℕ, zero, suc, _+_, _-_, _≤_, _<_}
 use Prim.Native.Char.{code}
 use native.Mathlib.Omega.{arith}
 use native.Mathlib.Numerals.{add-one}
@@ -18,13 +18,13 @@ unfoldable pub between : ℕ → ℕ → ℕ → Bool
 between first last c = cond (leb first c) (leb c last) false
 
 -- the space, the tab and the carriage return
-unfoldable pub blank : ℕ → Bool
-blank c = cond (eqb c 32) true (cond (eqb c 9) true (eqb c 13))
+unfoldable pub blankLetter : ℕ → Bool
+blankLetter c = cond (eqb c 32) true (cond (eqb c 9) true (eqb c 13))
 
 -- "Hex digits are 0 to 9, A to F and a to f."
 unfoldable pub isIn : Class → ℕ → Bool
-isIn Blank c = blank c
-isIn Plain c = cond (blank c) false (not (eqb c (code "#")))
+isIn Blank c = blankLetter c
+isIn Plain c = cond (blankLetter c) false (not (eqb c (code "#")))
 isIn Text c = not (eqb c (code "\""))
 isIn Digit c = between (code "0") (code "9") c
 isIn Hex c = cond (between (code "0") (code "9") c) true (cond (between (code "A") (code "F") c) true (between (code "a") (code "f") c))
@@ -60,3 +60,9 @@ front-within k (c ∷ cs) = let h = front-within k cs in byTest (isIn k c) (λ e
 
 pub run-within : (k : Class) (l : List ℕ) (at : ℕ) → at ≤ length l → runEnd k l at ≤ length l
 run-within k l at h = let f = front-within k (drop at l) in omega (arith, length-drop at l)
+
+-- where a letter stands that is not 0, the line has not ended
+pub letter-there : (l : List ℕ) (at c : ℕ) → getD l at 0 ≡ suc c → at < length l
+letter-there [] at c e = omega (arith, e)
+letter-there (x ∷ l) zero c e = omega arith
+letter-there (x ∷ l) (suc at) c e = let h = letter-there l at c e in omega (arith, h)

@@ -1,12 +1,12 @@
 // Letters of a line, and runs of one kind.
 ghost use mathlib.Core.Path.{_≡_};
 ghost use Prim.Native.Nat.{_+_};
-ghost use lib.ListN.{drop};
-ghost use Rattle.words.specs.Letters.{between, blank, isIn, front};
+ghost use lib.ListN.{drop, getD};
+ghost use Rattle.words.specs.Letters.{between, blankLetter, isIn, front};
 
 use crate::Class;
 
-pub(crate) fn is_between(first: u8, last: u8, letter: u8) -> bool
+pub fn is_between(first: u8, last: u8, letter: u8) -> bool
     ensures { λ r. ⌜ r ≡ between first last letter ⌝ }
 {
     if first <= letter { letter <= last } else { false }
@@ -14,7 +14,7 @@ pub(crate) fn is_between(first: u8, last: u8, letter: u8) -> bool
 
 // A space, a tab, a carriage return.
 fn is_blank(letter: u8) -> bool
-    ensures { λ r. ⌜ r ≡ blank letter ⌝ }
+    ensures { λ r. ⌜ r ≡ blankLetter letter ⌝ }
 {
     if letter == 32 {
         true
@@ -68,4 +68,11 @@ pub fn run_end(line: &[u8], at: usize, class: Class) -> usize
         }
     }
     i
+}
+
+// The letter there; 0 where the line has ended.
+pub fn letter_at(line: &[u8], at: usize) -> u8
+    ensures { λ r. ⌜ r ≡ getD (now (line .entry)) at 0 ⌝ }
+{
+    if at < line.len() { line[at] } else { 0 }
 }

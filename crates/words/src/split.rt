@@ -1,5 +1,6 @@
 // A line's words.
 ghost use mathlib.Core.Path.{_≡_};
+ghost use Prim.Native.Nat.{_-_};
 ghost use Rattle.words.specs.Split.{stops, textAt, startsAt, wordAt};
 
 use crate::Class;
@@ -48,4 +49,18 @@ pub fn word_at(line: &[u8], at: usize) -> Word
     ensures { λ r. ⌜ r ≡ wordAt (now (line .entry)) at ⌝ }
 {
     starts_at(line, run_end(line, at, Class::Blank))
+}
+
+// How many letters there are from start to end.
+pub fn span(start: usize, end: usize) -> usize
+    ensures { λ r. ⌜ r ≡ end - start ⌝ }
+{
+    if start <= end { end - start } else { 0 }
+}
+
+// Where the quote stands before the letters of a text.
+pub fn quote_before(start: usize) -> usize
+    ensures { λ r. ⌜ r ≡ start - 1 ⌝ }
+{
+    span(1, start)
 }

@@ -153,8 +153,8 @@ fn sorts(line: &Line) -> Vec<(&'static str, bool)> {
         ("who", line.outcome == Outcome::Who),
         ("help", line.outcome == Outcome::Help),
         ("quit", line.outcome == Outcome::Quit),
-        ("65536 letters", line.letters.len() == LONGEST_LINE),
-        ("65537 letters", line.letters.len() == LONGEST_LINE + 1),
+        ("131072 letters", line.letters.len() == LONGEST_LINE),
+        ("131073 letters", line.letters.len() == LONGEST_LINE + 1),
     ];
     sorts.extend(match &line.outcome {
         Outcome::Bad(wrong) => sorts_of_bad(line, wrong),

@@ -6,7 +6,7 @@ use crate::kept::Kept;
 use crate::words::{Word, Words};
 use model::rules::*;
 
-pub const LONGEST_LINE: usize = 65536;
+pub const LONGEST_LINE: usize = 131072;
 const LONGEST_DATA: usize = 65500;
 
 pub enum Says {

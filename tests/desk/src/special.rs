@@ -34,9 +34,9 @@ pub fn batches() -> Vec<Batch> {
     batches
 }
 
-/// Lines of 65536 letters, and data at its edges.
+/// Lines of 131072 letters, and data at its edges, as a text and in hex digits.
 fn long_lines() -> Batch {
-    let mut batch = keyed("lines of 65536 letters");
+    let mut batch = keyed("lines of 131072 letters");
     for filling in *b" #5\"0" {
         batch.add(filled("RPW ", filling, LONGEST_LINE));
         batch.add(filled("LAU ", filling, LONGEST_LINE));
@@ -51,16 +51,20 @@ fn long_lines() -> Batch {
         batch.add(with_text("DAUT 5 t ", letters));
         batch.add(with_text("CBCD 5 ", letters));
     }
+    for bytes in [32768, 32769, 65500, 65501] {
+        batch.add(filled("DAUT 5 t ", b'A', 9 + 2 * bytes));
+        batch.add(filled("ECBE 5 ", b'B', 7 + 2 * bytes));
+    }
     batch.add(filled("DAUT 5 t \"", b'a', LONGEST_LINE));
     batch.add(b"RPW".to_vec());
     batch
 }
 
-/// One line of 65537 letters, and one after it.
+/// One line of 131073 letters, and one after it.
 fn too_long_lines() -> Vec<Batch> {
     let starts = ["RPW ", "# ", "LAU 5x", "help"];
     let too_long = |start: &&str| {
-        let mut batch = keyed("a line of 65537 letters");
+        let mut batch = keyed("a line of 131073 letters");
         let filling = if *start == "# " { b'x' } else { b' ' };
         batch.add(filled(start, filling, LONGEST_LINE + 1));
         batch.add(b"RPW".to_vec());

@@ -1,6 +1,7 @@
 use Rattle.printout.specs.Text.{letters}
 use Rattle.printout.specs.Digits.{decimal}
-use Rattle.talk.proofs.Laws.{two, counted}
+use Rattle.printout.specs.Page.{two}
+use Rattle.talk.proofs.Laws.{counted}
 use Rattle.clerk.specs.Wrong.{expectedText, wrongText}
 use borrow.Author.Needs.{needs}
 use Rattle.clerk.proofs.wrong.put_wrong.Statement.{statement}

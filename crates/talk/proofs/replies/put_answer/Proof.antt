@@ -1,7 +1,7 @@
 use mathlib.Core.Path.{refl}
 use Rattle.printout.specs.Text.{letters}
 use Rattle.talk.specs.Replies.{refused, replies, answer}
-use Rattle.talk.proofs.Laws.{by-row, by-none}
+use Rattle.printout.specs.Rows.{by-row, by-none}
 use borrow.Author.Needs.{needs}
 use Rattle.talk.proofs.replies.put_answer.Statement.{statement}
 use Rattle.talk.proofs.replies.put_answer.Tie as tie

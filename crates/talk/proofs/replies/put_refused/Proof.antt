@@ -1,6 +1,6 @@
 use Rattle.printout.specs.Text.{letters}
 use Rattle.talk.specs.Replies.{refused}
-use Rattle.talk.proofs.Laws.{two}
+use Rattle.printout.specs.Page.{two}
 use borrow.Author.Needs.{needs}
 use Rattle.talk.proofs.replies.put_refused.Statement.{statement}
 use Rattle.talk.proofs.replies.put_refused.Tie as tie

@@ -1,9 +1,9 @@
 use mathlib.Core.List.{[], _∷_}
 use Prim.Native.Char.{code}
 use Rattle.printout.specs.Text.{letters}
-use Rattle.talk.specs.Names.{name}
+use Rattle.names.specs.Names.{name}
 use Rattle.talk.specs.Replies.{answer, wordsOf}
-use Rattle.talk.proofs.Laws.{two}
+use Rattle.printout.specs.Page.{two}
 use borrow.Author.Needs.{needs}
 use Rattle.talk.proofs.replies.put_words.Statement.{statement}
 use Rattle.talk.proofs.replies.put_words.Tie as tie

@@ -1,6 +1,6 @@
 use Rattle.printout.specs.Text.{letters}
 use Rattle.talk.specs.Who.{held}
-use Rattle.talk.proofs.Laws.{two}
+use Rattle.printout.specs.Page.{two}
 use borrow.Author.Needs.{needs}
 use Rattle.talk.proofs.who.put_held.Statement.{statement}
 use Rattle.talk.proofs.who.put_held.Tie as tie

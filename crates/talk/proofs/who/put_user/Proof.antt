@@ -1,7 +1,7 @@
 use Rattle.printout.specs.Text.{letters}
 use Rattle.printout.specs.Digits.{decimal}
 use Rattle.talk.specs.Who.{held, userLine}
-use Rattle.talk.proofs.Laws.{two}
+use Rattle.printout.specs.Page.{two}
 use borrow.Author.Needs.{needs}
 use Rattle.talk.proofs.who.put_user.Statement.{statement}
 use Rattle.talk.proofs.who.put_user.Tie as tie

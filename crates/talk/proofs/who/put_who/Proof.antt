@@ -1,7 +1,8 @@
 use Rattle.printout.specs.Text.{letters}
 use Rattle.printout.specs.Digits.{decimal}
 use Rattle.talk.specs.Who.{who}
-use Rattle.talk.proofs.Laws.{two, counted}
+use Rattle.printout.specs.Page.{two}
+use Rattle.talk.proofs.Laws.{counted}
 use borrow.Author.Needs.{needs}
 use Rattle.talk.proofs.who.put_who.Statement.{statement}
 use Rattle.talk.proofs.who.put_who.Tie as tie

@@ -2,15 +2,11 @@ use borrow.Author.Tests.{le-leb, lt-leb}
 use Rattle.words.specs.Letters.{between}
 use Rattle.words.proofs.letters.is_between.Statement.{statement}
 use Rattle.words.proofs.letters.is_between.Tie as tie
-use Rattle.words.proofs.letters.is_between.Reads as reads
-use Rattle.words.proofs.letters.is_between.Lts as lts
 
--- src/letters.rt:9:1
 returns : tie.Need-returns
 unfolding between
 returns c = simp (le-leb _ _ (c .if1 .taken))
 
--- src/letters.rt:9:1
 returns-2 : tie.Need-returns-2
 unfolding between
 returns-2 c = simp (lt-leb _ _ (c .if1 .left))

@@ -1,23 +1,18 @@
 use borrow.Author.Tests.{eq-eqb, ne-eqb}
-use Rattle.words.specs.Letters.{blank}
+use Rattle.words.specs.Letters.{blankLetter}
 use Rattle.words.proofs.letters.is_blank.Statement.{statement}
 use Rattle.words.proofs.letters.is_blank.Tie as tie
-use Rattle.words.proofs.letters.is_blank.Reads as reads
-use Rattle.words.proofs.letters.is_blank.Lts as lts
 
--- src/letters.rt:16:1
 returns : tie.Need-returns
-unfolding blank
+unfolding blankLetter
 returns c = simp (eq-eqb _ _ (c .if1 .taken))
 
--- src/letters.rt:16:1
 returns-2 : tie.Need-returns-2
-unfolding blank
+unfolding blankLetter
 returns-2 c = simp (eq-eqb _ _ (c .if2 .taken), ne-eqb _ _ (c .before .if1 .left))
 
--- src/letters.rt:16:1
 returns-3 : tie.Need-returns-3
-unfolding blank
+unfolding blankLetter
 returns-3 c = simp (ne-eqb _ _ (c .if2 .left), ne-eqb _ _ (c .before .if1 .left))
 
 pub is-blank-spec : {M : Type 1} → statement M

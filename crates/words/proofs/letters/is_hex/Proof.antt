@@ -3,33 +3,15 @@ use Rattle.words.specs.Letters.{isIn}
 use borrow.Author.Needs.{needs}
 use Rattle.words.proofs.letters.is_hex.Statement.{statement}
 use Rattle.words.proofs.letters.is_hex.Tie as tie
-use Rattle.words.proofs.letters.is_hex.Reads as reads
-use Rattle.words.proofs.letters.is_hex.Lts as lts
-use Rattle.words.proofs.letters.is_between.Reads as is-between-reads
 
--- src/letters.rt:31:8
-is-between-requires : tie.Need-is-between-requires
-is-between-requires c κs = search needs
-
--- src/letters.rt:33:15
-is-between-requires-2 : tie.Need-is-between-requires-2
-is-between-requires-2 c κs = search needs
-
--- src/letters.rt:36:9
-is-between-requires-3 : tie.Need-is-between-requires-3
-is-between-requires-3 c κs = search needs
-
--- src/letters.rt:28:1
 returns : tie.Need-returns
 unfolding isIn
 returns c = simp (sym (c .before .is-between .ensures) ∙ c .if1 .taken)
 
--- src/letters.rt:28:1
 returns-2 : tie.Need-returns-2
 unfolding isIn
 returns-2 c = simp (sym (c .before .is-between2 .ensures) ∙ c .if2 .taken, sym (c .before .before .before .is-between .ensures) ∙ c .before .before .if1 .left)
 
--- src/letters.rt:28:1
 returns-3 : tie.Need-returns-3
 unfolding isIn
 returns-3 c = simp (c .is-between3 .ensures, sym (c .before .before .is-between2 .ensures) ∙ c .before .if2 .left, sym (c .before .before .before .before .is-between .ensures) ∙ c .before .before .before .if1 .left)
@@ -38,9 +20,9 @@ pub is-hex-spec : {M : Type 1} → statement M
 is-hex-spec =
     tie.close
     (tie.spec
-    is-between-requires
-    is-between-requires-2
-    is-between-requires-3
+    (λ c κs. search needs)
+    (λ c κs. search needs)
+    (λ c κs. search needs)
     returns
     returns-2
     returns-3)

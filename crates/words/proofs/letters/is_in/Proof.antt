@@ -3,74 +3,27 @@ use Rattle.words.specs.Letters.{isIn}
 use borrow.Author.Needs.{needs}
 use Rattle.words.proofs.letters.is_in.Statement.{statement}
 use Rattle.words.proofs.letters.is_in.Tie as tie
-use Rattle.words.proofs.letters.is_in.Reads as reads
-use Rattle.words.proofs.letters.is_in.Lts as lts
-use Rattle.words.proofs.letters.is_between.Reads as is-between-reads
-use Rattle.words.proofs.letters.is_blank.Reads as is-blank-reads
-use Rattle.words.proofs.letters.is_hex.Reads as is-hex-reads
 
--- src/letters.rt:44:25
-enum-told : tie.Need-enum-told
-enum-told c = search needs
-
--- src/letters.rt:44:25
-is-blank-requires : tie.Need-is-blank-requires
-is-blank-requires c κs = search needs
-
--- src/letters.rt:46:16
-enum-told-2 : tie.Need-enum-told-2
-enum-told-2 c = search needs
-
--- src/letters.rt:46:16
-is-blank-requires-2 : tie.Need-is-blank-requires-2
-is-blank-requires-2 c κs = search needs
-
--- src/letters.rt:52:24
-enum-told-3 : tie.Need-enum-told-3
-enum-told-3 c = search needs
-
--- src/letters.rt:53:25
-enum-told-4 : tie.Need-enum-told-4
-enum-told-4 c = search needs
-
--- src/letters.rt:53:25
-is-between-requires : tie.Need-is-between-requires
-is-between-requires c κs = search needs
-
--- src/letters.rt:54:23
-enum-told-5 : tie.Need-enum-told-5
-enum-told-5 c = search needs
-
--- src/letters.rt:54:23
-is-hex-requires : tie.Need-is-hex-requires
-is-hex-requires c κs = search needs
-
--- src/letters.rt:40:1
 returns : tie.Need-returns
 unfolding isIn
 returns c = simp (c .is-blank .ensures, c .before .enum-told .given .1, c .before .before .match .keys1)
 
--- src/letters.rt:40:1
 returns-2 : tie.Need-returns-2
 unfolding isIn
 returns-2 c = simp (sym (c .before .is-blank2 .ensures) ∙ c .if1 .taken, c .before .before .enum-told2 .given .1, c .before .before .before .match .keys2)
 
--- src/letters.rt:40:1
 returns-3 : tie.Need-returns-3
 unfolding isIn
 returns-3 c = simp (sym (c .before .is-blank2 .ensures) ∙ c .if1 .left, c .before .before .enum-told2 .given .1, c .before .before .before .match .keys2)
 
--- src/letters.rt:40:1
 returns-4 : tie.Need-returns-4
 unfolding isIn
 returns-4 c = simp (c .enum-told3 .given .1, c .before .match .keys3)
 
--- src/letters.rt:40:1
 returns-5 : tie.Need-returns-5
 unfolding isIn
 returns-5 c = simp (c .is-between .ensures, c .before .enum-told4 .given .1, c .before .before .match .keys4)
 
--- src/letters.rt:40:1
 returns-6 : tie.Need-returns-6
 unfolding isIn
 returns-6 c = simp (c .is-hex .ensures, c .before .enum-told5 .given .1, c .before .before .match .keys5)
@@ -79,15 +32,15 @@ pub is-in-spec : {M : Type 1} → statement M
 is-in-spec =
     tie.close
     (tie.spec
-    enum-told
-    is-blank-requires
-    enum-told-2
-    is-blank-requires-2
-    enum-told-3
-    enum-told-4
-    is-between-requires
-    enum-told-5
-    is-hex-requires
+    (λ c. search needs)
+    (λ c κs. search needs)
+    (λ c. search needs)
+    (λ c κs. search needs)
+    (λ c. search needs)
+    (λ c. search needs)
+    (λ c κs. search needs)
+    (λ c. search needs)
+    (λ c κs. search needs)
     returns
     returns-2
     returns-3

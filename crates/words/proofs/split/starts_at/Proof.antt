@@ -1,50 +1,21 @@
-use mathlib.Core.Path.{sym}
 use borrow.Author.Tests.{eq-eqb, le-leb, lt-leb, ne-eqb}
 use Rattle.words.specs.Split.{startsAt}
 use borrow.Author.Needs.{needs}
 use Rattle.words.proofs.split.starts_at.Statement.{statement}
 use Rattle.words.proofs.split.starts_at.Tie as tie
-use Rattle.words.proofs.split.starts_at.Reads as reads
-use Rattle.words.proofs.split.starts_at.Lts as lts
-use Rattle.words.proofs.letters.run_end.Reads as run-end-reads
-use Rattle.words.proofs.split.text_at.Reads as text-at-reads
 
--- src/split.rt:35:9
 returns : tie.Need-returns
 unfolding startsAt
 returns c = simp (le-leb _ _ (c .if1 .taken))
 
--- src/split.rt:37:8
-shared-slice-read-if2 : tie.Need-shared-slice-read-if2
-shared-slice-read-if2 c = search needs
-
--- src/split.rt:38:9
 returns-2 : tie.Need-returns-2
 unfolding startsAt
 returns-2 c = simp (eq-eqb _ _ (c .if2 .taken), lt-leb _ _ (c .before .before .if1 .left))
 
--- src/split.rt:40:8
-shared-slice-read-if3 : tie.Need-shared-slice-read-if3
-shared-slice-read-if3 c = search needs
-
--- src/split.rt:41:30
-add-text-at : tie.Need-add-text-at
-add-text-at c = search needs
-
--- src/split.rt:41:9
-text-at-requires : tie.Need-text-at-requires
-text-at-requires c κs = search needs
-
--- src/split.rt:41:9
 returns-3 : tie.Need-returns-3
 unfolding startsAt
 returns-3 c = simp (c .text-at .ensures, eq-eqb _ _ (c .before .if3 .taken), ne-eqb _ _ (c .before .before .before .if2 .left), lt-leb _ _ (c .before .before .before .before .before .if1 .left))
 
--- src/split.rt:43:35
-run-end-requires : tie.Need-run-end-requires
-run-end-requires c κs = search needs
-
--- src/split.rt:31:1
 returns-4 : tie.Need-returns-4
 unfolding startsAt
 returns-4 c = simp (c .run-end .ensures, ne-eqb _ _ (c .before .if3 .left), ne-eqb _ _ (c .before .before .before .if2 .left), lt-leb _ _ (c .before .before .before .before .before .if1 .left))
@@ -54,11 +25,11 @@ starts-at-spec =
     tie.close
     (tie.spec
     returns
-    shared-slice-read-if2
+    (λ c. search needs)
     returns-2
-    shared-slice-read-if3
-    add-text-at
-    text-at-requires
+    (λ c. search needs)
+    (λ c. search needs)
+    (λ c κs. search needs)
     returns-3
-    run-end-requires
+    (λ c κs. search needs)
     returns-4)

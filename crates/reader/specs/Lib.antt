@@ -1,0 +1,4 @@
+pub mod Line
+pub mod Command
+pub mod Raw
+pub mod Reader

@@ -1,0 +1,4 @@
+pub mod Numbers
+pub mod Sources
+pub mod Values
+pub mod Fields
