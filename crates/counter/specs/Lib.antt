@@ -1,3 +1,4 @@
 pub mod Input
 pub mod Kept
 pub mod Service
+pub mod Whole
