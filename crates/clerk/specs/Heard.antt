@@ -6,6 +6,7 @@ use lib.Dec.{ltb}
 use lib.ListN.{length}
 use Rattle.words.specs.declared.Expected.the-variants.{NothingMore}
 use Rattle.reader.specs.declared.Line.{Line}
+use Rattle.reader.specs.Line.{wrongLine}
 use Rattle.reader.specs.Reader.{lineOf}
 
 unfoldable pub wrongBefore : Line → ℕ → Bool
@@ -13,7 +14,7 @@ wrongBefore r n = cond (r .fits) false (ltb (r .at) n)
 
 -- a line that goes on past its first n letters, as they are read
 unfoldable pub cutAt : Line → ℕ → Line
-cutAt r n = cond (wrongBefore r n) r (record { fits = false; at = n; expected = NothingMore; says = r .says; asked = r .asked; bytes = r .bytes })
+cutAt r n = cond (wrongBefore r n) r (wrongLine n NothingMore)
 
 unfoldable pub heard : Bool → List ℕ → List ℕ → List ℕ → Line
 heard longer l kept ends = cond longer (cutAt (lineOf l kept ends) (length l)) (lineOf l kept ends)

@@ -2,9 +2,10 @@
 ghost use mathlib.Core.Path.{_≡_};
 ghost use Rattle.clerk.specs.Heard.{wrongBefore, cutAt, heard};
 
-use words::Expected;
 use reader::Line;
 use reader::reader::read_line;
+use reader::wrong_line;
+use words::Expected;
 
 fn wrong_before(said: Line, n: usize) -> bool
     ensures { λ r. ⌜ r ≡ wrongBefore said n ⌝ }
@@ -19,10 +20,7 @@ fn cut_at(said: Line, n: usize) -> Line
     if wrong_before(said, n) {
         said
     } else {
-        let says = said.says;
-        let asked = said.asked;
-        let bytes = said.bytes;
-        Line { fits: false, at: n, expected: Expected::NothingMore, says, asked, bytes }
+        wrong_line(n, Expected::NothingMore)
     }
 }
 

@@ -30,6 +30,15 @@ fn ask(asks: bool) {
     }
 }
 
+// Where the input ended, the last line on the screen is a `> `: it is ended.
+fn part(asks: bool, complete: bool) {
+    if asks {
+        if !complete {
+            write_all(libc::STDOUT_FILENO, b"\n");
+        }
+    }
+}
+
 // A line answered: by the desk itself, or by the facility.
 fn answer(desk: Desk, number: usize, said: Line, line: &[u8], table: &mut [u8], out: &mut [u8], kept: &mut [u8], ends: &mut [usize], piece: &mut [u8], paper: &mut [u8]) -> Desk {
     let told = put_told(&mut paper[..], 0, number, said, desk.state);
@@ -49,6 +58,7 @@ fn serve(asks: bool, line: &mut [u8], table: &mut [u8], out: &mut [u8], kept: &m
         let said = hear(first_of(&line[..], got.letters), got.longer, &kept[..], ends_of(&ends[..], desk.answers));
         desk = answer(desk, number, said, first_of(&line[..], got.letters), &mut table[..], &mut out[..], &mut kept[..], &mut ends[..], &mut piece[..], &mut paper[..]);
         if is_last(got, said) {
+            part(asks, got.complete);
             return;
         }
     }

@@ -31,7 +31,7 @@ fn request_of(tag: u8) -> Request
     Request { tag, issuer: 0, party: 0, interchange: 0, function: 0, block: [0; 8], second: [0; 8] }
 }
 
-fn wrong_line(at: usize, expected: Expected) -> Line
+pub fn wrong_line(at: usize, expected: Expected) -> Line
     ensures { λ r. ⌜ r ≡ wrongLine at expected ⌝ }
 {
     Line { fits: false, at, expected, says: Says::Nothing, asked: request_of(0), bytes: source(Origin::Letters, 0, 0) }

@@ -13,7 +13,8 @@ lines (s ∷ ss) = letters s ++ (code "\n" ∷ lines ss)
 unfoldable pub help : List ℕ
 help =
     lines
-    ("RAS issuer password                       become active"
+    ("to begin                                  EIK 1, then IPW, then RAS"
+    ∷ "RAS issuer password                       become active"
     ∷ "LAU issuer                                leave, with all that was loaded"
     ∷ "CPW issuer old-password new-password      change the own password"
     ∷ "GDK issuer party interchange bits         make a data key, sealed for party"
@@ -33,8 +34,9 @@ help =
     ∷ "IPW user password                         officer: enter a password"
     ∷ "RPW                                       officer: move passwords to new key 1"
     ∷ "LOGOUT user                               host: log a user out"
-    ∷ "issuer, party, user, interchange          a decimal number"
-    ∷ "password, bits, block, key                16 hex digits, or $n"
+    ∷ "issuer, party, user                       who asks, the other: decimal numbers"
+    ∷ "interchange                               a decimal number, 1 to 15"
+    ∷ "block (and password, bits, key)           16 hex digits, or $n"
     ∷ "$n                                        the bytes of answer n"
     ∷ "! hex                                     raw bytes of the command stream"
     ∷ "\"text\"                                    data as letters; else hex in pairs"

@@ -9,6 +9,7 @@ pub fn put_help(paper: &mut [u8], at: usize) -> usize
     ensures { λ r. ⌜ page (now (paper .exit)) r ≡ entered help (page (now (paper .entry)) at) ⌝ }
 {
     let text = b"\
+to begin                                  EIK 1, then IPW, then RAS
 RAS issuer password                       become active
 LAU issuer                                leave, with all that was loaded
 CPW issuer old-password new-password      change the own password
@@ -29,8 +30,9 @@ EIK interchange key                       officer: enter an interchange key
 IPW user password                         officer: enter a password
 RPW                                       officer: move passwords to new key 1
 LOGOUT user                               host: log a user out
-issuer, party, user, interchange          a decimal number
-password, bits, block, key                16 hex digits, or $n
+issuer, party, user                       who asks, the other: decimal numbers
+interchange                               a decimal number, 1 to 15
+block (and password, bits, key)           16 hex digits, or $n
 $n                                        the bytes of answer n
 ! hex                                     raw bytes of the command stream
 \"text\"                                    data as letters; else hex in pairs

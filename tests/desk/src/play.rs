@@ -55,7 +55,7 @@ fn converse(held_back: &mut Vec<u8>) -> Result<()> {
             write_out(b"> ")?;
         }
         let Some(line) = next_line(&mut input)? else {
-            return Ok(());
+            return if asks { write_out(b"\n") } else { Ok(()) };
         };
         let (outcome, answer) = desk.take(&line);
         say(held_back, answer.as_bytes())?;

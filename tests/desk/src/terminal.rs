@@ -152,6 +152,10 @@ fn at_terminal(desk: &Program, help: &str) -> Checked {
     }
     corrects(&mut terminal, &mut heard)?;
     told(terminal.type_in(END_OF_INPUT))?;
+    let rest = heard.until_end()?;
+    if rest != "\r\n" {
+        return Err(format!("at the end came {rest:?}"));
+    }
     ends(&mut terminal.child)
 }
 

@@ -10,7 +10,7 @@ returns c = simp (sym (c .before .wrong-before .ensures), c .if1 .taken)
 
 returns-2 : tie.Need-returns-2
 unfolding cutAt
-returns-2 c = simp (sym (c .before .before .before .wrong-before .ensures), c .before .before .if1 .left)
+returns-2 c = simp (c .wrong-line .ensures, sym (c .before .before .wrong-before .ensures), c .before .if1 .left)
 
 pub cut-at-spec : {M : Type 1} → statement M
-cut-at-spec = tie.close (tie.spec (λ c κs. search needs) returns returns-2)
+cut-at-spec = tie.close (tie.spec (λ c κs. search needs) (λ c κs. search needs) returns returns-2)
