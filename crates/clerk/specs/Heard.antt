@@ -7,7 +7,7 @@ use lib.ListN.{length}
 use Rattle.words.specs.declared.Expected.the-variants.{NothingMore}
 use Rattle.reader.specs.declared.Line.{Line}
 use Rattle.reader.specs.Line.{wrongLine}
-use Rattle.reader.specs.Reader.{lineOf}
+use Rattle.reader.specs.Reader.{readLine}
 
 unfoldable pub wrongBefore : Line → ℕ → Bool
 wrongBefore r n = cond (r .fits) false (ltb (r .at) n)
@@ -17,4 +17,4 @@ unfoldable pub cutAt : Line → ℕ → Line
 cutAt r n = cond (wrongBefore r n) r (wrongLine n NothingMore)
 
 unfoldable pub heard : Bool → List ℕ → List ℕ → List ℕ → Line
-heard longer l kept ends = cond longer (cutAt (lineOf l kept ends) (length l)) (lineOf l kept ends)
+heard longer l kept ends = cond longer (cutAt (readLine l kept ends) (length l)) (readLine l kept ends)

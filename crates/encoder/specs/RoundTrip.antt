@@ -18,7 +18,7 @@ use Rattle.stream.specs.Exact.{fits-spells, spells-fits}
 use Rattle.encoder.specs.Encoded.{encodedWith, unlessLong, encoded}
 
 -- at this position of a stream the reader finds the whole field of the tag t with the value v, and the decoder finds in it the request a with the data d
-pub record Reads (s : Bytes) (at t : ℕ) (v : Bytes) (a : Request) (d : Bytes) : Type 0 where
+pub record ReadBack (s : Bytes) (at t : ℕ) (v : Bytes) (a : Request) (d : Bytes) : Type 0 where
   pub whole : fieldAt s at ≡ Whole t (at + 3) (at + 3 + length v)
   pub value : valueAt s at ≡ v
   pub fits : decoded t v .fits ≡ true
@@ -37,7 +37,7 @@ module _ (t : ℕ) (v : Bytes) (a : Request) (d : Bytes) (h : Spells t v a d) (s
       ∙ ap (λ (n : ℕ). field n v) (h .tagged)
 
   -- wherever it stands in a stream, whatever follows it, it is read back
-  pub read-within : (s : Bytes) (at : ℕ) (r : Bytes) → drop at s ≡ encoded a d ++ r → Reads s at t v a d
+  pub read-within : (s : Bytes) (at : ℕ) (r : Bytes) → drop at s ≡ encoded a d ++ r → ReadBack s at t v a d
   read-within s at r e =
       let stands : drop at s ≡ field t v ++ r = e ∙ ap (λ (x : Bytes). x ++ r) as-field in
       let whole = field-is-whole s at t v r short stands in
@@ -51,7 +51,7 @@ module _ (t : ℕ) (v : Bytes) (a : Request) (d : Bytes) (h : Spells t v a d) (s
       }
 
   -- by itself too
-  pub read-back : Reads (encoded a d) 0 t v a d
+  pub read-back : ReadBack (encoded a d) 0 t v a d
   read-back = read-within (encoded a d) 0 [] (sym (append-nil (encoded a d)))
 
 -- what the decoder reads out of a stream is written to the very bytes that stand there

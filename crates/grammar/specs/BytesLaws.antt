@@ -24,7 +24,7 @@ use Rattle.words.specs.declared.Class.the-variants.{Digit, Hex}
 use Rattle.words.specs.declared.Expected.the-variants.{Bytes as SomeBytes}
 use Rattle.words.specs.Letters.{between, isIn, front}
 use Rattle.grammar.specs.Lines.{every}
-use Rattle.grammar.specs.Means.{Number, Pairs, Answered, Ordinal}
+use Rattle.grammar.specs.Means.{Number, Pairs, OfAnswer, Ordinal}
 use Rattle.grammar.specs.LetterLaws.{shifted-leb, letter-there, letter-after, part-there}
 use Rattle.grammar.specs.NumberLaws.{Exact, no-value, a-value, exact-is, exact-for, run-ends}
 
@@ -110,7 +110,7 @@ module _ (l kept : List ℕ) (s : ℕ) (w r : List ℕ) (h : drop s l ≡ w ++ r
 -- ---- answers
 
 module _ (l kept ends : List ℕ) (n : ℕ) where
-  answer-is : (b : List ℕ) (a : Answered kept ends n b) → answerSource (length kept) ends n ≡ source FromAnswer (length (a .before)) (length (a .before) + length b)
+  answer-is : (b : List ℕ) (a : OfAnswer kept ends n b) → answerSource (length kept) ends n ≡ source FromAnswer (length (a .before)) (length (a .before) + length b)
   unfolding answerSource
   answer-is b a =
       let m : length kept ≡ length (a .before) + (length b + length (a .beyond)) =
@@ -119,20 +119,20 @@ module _ (l kept ends : List ℕ) (n : ℕ) where
       (ap₂ (λ (x y : ℕ). source FromAnswer x y) (sym (a .from)) (sym (a .to)))
 
   -- its bytes, and how many they are
-  answer-bytes : (b : List ℕ) → Answered kept ends n b → meant (answerSource (length kept) ends n) l kept ≡ b
+  answer-bytes : (b : List ℕ) → OfAnswer kept ends n b → meant (answerSource (length kept) ends n) l kept ≡ b
   unfolding meant
   answer-bytes b a =
       let t : drop (length (a .before)) kept ≡ b ++ a .beyond = ap (drop (length (a .before))) (a .whole) ∙ drop-at (a .before) (b ++ a .beyond) (length (a .before)) refl in
       ap (λ (x : Source). meant x l kept) (answer-is b a) ∙ part-there kept (length (a .before)) b (a .beyond) t
 
-  answer-start : (b : List ℕ) (a : Answered kept ends n b) → answerSource (length kept) ends n .start ≡ length (a .before)
+  answer-start : (b : List ℕ) (a : OfAnswer kept ends n b) → answerSource (length kept) ends n .start ≡ length (a .before)
   answer-start b a = ap (λ (x : Source). x .start) (answer-is b a)
 
-  answer-end : (b : List ℕ) (a : Answered kept ends n b) → answerSource (length kept) ends n .end ≡ length (a .before) + length b
+  answer-end : (b : List ℕ) (a : OfAnswer kept ends n b) → answerSource (length kept) ends n .end ≡ length (a .before) + length b
   answer-end b a = ap (λ (x : Source). x .end) (answer-is b a)
 
   -- an answer that has bytes
-  answer-there : answerSource (length kept) ends n .start < answerSource (length kept) ends n .end → Answered kept ends n (meant (answerSource (length kept) ends n) l kept)
+  answer-there : answerSource (length kept) ends n .start < answerSource (length kept) ends n .end → OfAnswer kept ends n (meant (answerSource (length kept) ends n) l kept)
   unfolding answerSource meant
   answer-there h =
       byTest (eqb n 0)
@@ -160,12 +160,12 @@ module _ (l kept ends : List ℕ) (n : ℕ) where
       }))))
 
   module _ (at : ℕ) where
-    answer-block : Exact (answerBlock at (answerSource (length kept) ends n)) (bytesOf l kept true) (λ b. Answered kept ends n b × (length b ≡ 8))
+    answer-block : Exact (answerBlock at (answerSource (length kept) ends n)) (bytesOf l kept true) (λ b. OfAnswer kept ends n b × (length b ≡ 8))
     unfolding answerBlock fitting wrong
     answer-block =
         let o = answerSource (length kept) ends n in
         let v = answerBlock at o in
-        let R : List ℕ → Type 0 = λ b. Answered kept ends n b × (length b ≡ 8) in
+        let R : List ℕ → Type 0 = λ b. OfAnswer kept ends n b × (length b ≡ 8) in
         byTest (eqb (o .end - o .start) 8)
         (λ e.
         let m = eqb-true (o .end - o .start) 8 e in
@@ -176,12 +176,12 @@ module _ (l kept ends : List ℕ) (n : ℕ) where
         (λ e. no-value v (bytesOf l kept true) R (rw e)
         (λ b x. eqb-false (o .end - o .start) 8 e (omega (arith, answer-start b (x .0), answer-end b (x .0), x .1))))
 
-    answer-data : Exact (answerData at (answerSource (length kept) ends n)) (bytesOf l kept false) (λ b. Answered kept ends n b × (length b ≤ 65500))
+    answer-data : Exact (answerData at (answerSource (length kept) ends n)) (bytesOf l kept false) (λ b. OfAnswer kept ends n b × (length b ≤ 65500))
     unfolding answerData dataOf fitting wrong
     answer-data =
         let o = answerSource (length kept) ends n in
         let v = answerData at o in
-        let R : List ℕ → Type 0 = λ b. Answered kept ends n b × (length b ≤ 65500) in
+        let R : List ℕ → Type 0 = λ b. OfAnswer kept ends n b × (length b ≤ 65500) in
         byTest (ltb (o .start) (o .end))
         (λ e.
         let a = answer-there (ltb-true (o .start) (o .end) e) in
@@ -193,14 +193,14 @@ module _ (l kept ends : List ℕ) (n : ℕ) where
         (λ e. no-value v (bytesOf l kept false) R (rw e)
         (λ b x. let z = ltb-false (o .start) (o .end) e in omega (arith, z, answer-start b (x .0), answer-end b (x .0), x .0 .some)))
 
-    pub answer-exact : (eight : Bool) → Exact (answerFor eight at (answerSource (length kept) ends n)) (bytesOf l kept eight) (λ b. Answered kept ends n b × Sized eight (length b))
+    pub answer-exact : (eight : Bool) → Exact (answerFor eight at (answerSource (length kept) ends n)) (bytesOf l kept eight) (λ b. OfAnswer kept ends n b × Sized eight (length b))
     answer-exact true = answer-block
     answer-exact false = answer-data
 
 -- a word of `$` and the letters ds
 module _ (l kept ends : List ℕ) (s : ℕ) (ds r : List ℕ) (h : drop s l ≡ (code "$" ∷ ds) ++ r) where
   -- what it says is said by its letters after the `$`
-  its-number : (b : List ℕ) → Ordinal kept ends (code "$" ∷ ds) b → (n : ℕ) × (0 < length ds) × Number 4294967295 ds n × Answered kept ends n b
+  its-number : (b : List ℕ) → Ordinal kept ends (code "$" ∷ ds) b → (n : ℕ) × (0 < length ds) × Number 4294967295 ds n × OfAnswer kept ends n b
   its-number b x =
       let e : x .number ≡ ds = sym (tail-eq-of-cons-eq (x .word)) in
       (x .n, subst (λ (t : List ℕ). 0 < length t) e (x .some), subst (λ (t : List ℕ). Number 4294967295 t (x .n)) e (x .ordinal), x .answer)
@@ -231,9 +231,9 @@ module _ (l kept ends : List ℕ) (s : ℕ) (ds r : List ℕ) (h : drop s l ≡ 
       (λ small.
       let w = leb-true n 4294967295 small in
       exact-is v f R (answerFor eight s (answerSource (length kept) ends n)) (answer-read eight ∙ rw (all, e, within-limit 4294967295 n w))
-      (exact-for (answerFor eight s (answerSource (length kept) ends n)) f (λ b. Answered kept ends n b × Sized eight (length b)) R
+      (exact-for (answerFor eight s (answerSource (length kept) ends n)) f (λ b. OfAnswer kept ends n b × Sized eight (length b)) R
       (λ b x. (record { n = n; number = ds; word = refl; some = leb-false (length ds) 0 e; ordinal = record { digit = all; value = refl; within = w }; answer = x .0 }, x .1))
-      (λ b x. let i = its-number b (x .0) in (subst (λ (m : ℕ). Answered kept ends m b) (sym (i .2 .value)) (i .3), x .1))
+      (λ b x. let i = its-number b (x .0) in (subst (λ (m : ℕ). OfAnswer kept ends m b) (sym (i .2 .value)) (i .3), x .1))
       (answer-exact l kept ends n s eight)))
       (λ large. no-value v f R (ap (λ (u : Value). u .fits) (answer-read eight) ∙ rw (all, e, above-limit 4294967295 n (leb-false n 4294967295 large)))
       (λ b x. let i = its-number b (x .0) in omega (arith, leb-false n 4294967295 large, i .2 .value, i .2 .within)))))

@@ -18,7 +18,7 @@ use Rattle.reader.specs.declared.Line.{Line}
 use Rattle.reader.specs.Line.{wrongLine, soFar}
 use Rattle.reader.specs.Command.{after, tookValue, tookWord, readWord, readWords, nothingElse, endedLine, commandLine}
 use Rattle.reader.specs.Raw.{rawHex, rawWord, rawTurn, rawTurns, rawStart, rawLine}
-use Rattle.reader.specs.Reader.{aloneLine, saysLine, startedLine, firstWord, lineOf}
+use Rattle.reader.specs.Reader.{aloneLine, saysLine, startedLine, firstWord, readLine}
 use Rattle.stream.specs.Commands.{formOf}
 use Rattle.stream.specs.Fields.{part}
 use Rattle.values.specs.declared.Source.{Source}
@@ -336,25 +336,25 @@ module _ (l : List ℕ) where
   first-rests kept ends (Broken at x) h = broken-rests at x h
   first-rests kept ends (NoWord at) h = so-far-rests Nothing 0 at _ h
 
-  line-rests : (kept ends : List ℕ) → Rests (lineOf l kept ends)
-  unfolding lineOf
+  line-rests : (kept ends : List ℕ) → Rests (readLine l kept ends)
+  unfolding readLine
   line-rests kept ends = first-rests kept ends (wordAt l 0) (word-lies 0 (omega arith))
 
 -- ---- the theorems
 
 -- columns are counted from 1: the column is from 1 to the line's length and one
-pub column-within : (l kept ends : List ℕ) → lineOf l kept ends .fits ≡ false → lineOf l kept ends .at ≤ length l
+pub column-within : (l kept ends : List ℕ) → readLine l kept ends .fits ≡ false → readLine l kept ends .at ≤ length l
 column-within l kept ends h = line-rests l kept ends .within
 
 -- and can be past the end: a quote alone
-pub just-past : (lineOf (letters "\"") [] [] .fits ≡ false) × (lineOf (letters "\"") [] [] .at ≡ 1)
-unfolding lineOf firstWord wordAt startsAt textAt front isIn blankLetter wrongLine
+pub just-past : (readLine (letters "\"") [] [] .fits ≡ false) × (readLine (letters "\"") [] [] .at ≡ 1)
+unfolding readLine firstWord wordAt startsAt textAt front isIn blankLetter wrongLine
 just-past = (refl, refl)
 
 -- "a closing quote: at the line's end"
-pub closing-at-end : (l kept ends : List ℕ) → lineOf l kept ends .expected ≡ ClosingQuote → lineOf l kept ends .at ≡ length l
+pub closing-at-end : (l kept ends : List ℕ) → readLine l kept ends .expected ≡ ClosingQuote → readLine l kept ends .at ≡ length l
 closing-at-end l kept ends e = line-rests l kept ends .closing e
 
 -- "a space after the quote: after the closing quote"
-pub space-after-quote : (l kept ends : List ℕ) → lineOf l kept ends .expected ≡ SpaceAfterQuote → AfterQuote l (lineOf l kept ends .at)
+pub space-after-quote : (l kept ends : List ℕ) → readLine l kept ends .expected ≡ SpaceAfterQuote → AfterQuote l (readLine l kept ends .at)
 space-after-quote l kept ends e = line-rests l kept ends .spaced e

@@ -16,7 +16,7 @@ use Rattle.reader.specs.declared.Line.{Line}
 use Rattle.reader.specs.Line.{wrongLine, soFar}
 use Rattle.reader.specs.Command.{commandLine}
 use Rattle.reader.specs.Raw.{rawLine}
-use Rattle.reader.specs.Reader.{aloneLine, saysLine, startedLine, firstWord, lineOf}
+use Rattle.reader.specs.Reader.{aloneLine, saysLine, startedLine, firstWord, readLine}
 use Rattle.stream.specs.declared.Request.{Request}
 use Rattle.stream.specs.Fields.{Bytes}
 use Rattle.stream.specs.Commands.{argumentsOf, blank}
@@ -38,7 +38,7 @@ use Rattle.grammar.specs.RawLaws.{fits-raw, said-raw}
 
 module _ (l kept ends : List ℕ) where
   abbrev pub read : Line
-  read = lineOf l kept ends
+  read = readLine l kept ends
 
   -- the reader's line r says s, with the request a and the bytes d
   abbrev pub Tells : Line → Says → Request → Bytes → Type 0
@@ -63,7 +63,7 @@ module _ (l kept ends : List ℕ) where
     on ps line = (rest, b, subst (Lines ps) rest-is line)
 
     started : read ≡ startedLine l kept ends (begins-stands l 0 (plain w) rest b .start) at (startOf w)
-    unfolding lineOf firstWord at
+    unfolding readLine firstWord at
     started =
         let s = begins-stands l 0 (plain w) rest b in
         ap (firstWord l kept ends) (s .word)
@@ -136,11 +136,11 @@ module _ (l kept ends : List ℕ) where
   -- ---- by the first word
 
   not-first : (v : Word) → wordAt l 0 ≡ v → firstWord l kept ends v .fits ≡ false → Right read
-  unfolding lineOf
+  unfolding readLine
   not-first v e f h = absurd (true≢false (sym h ∙ ap (λ (x : Word). firstWord l kept ends x .fits) e ∙ f))
 
   by-first : Next l 0 → Right read
-  unfolding lineOf firstWord soFar wrongLine meant
+  unfolding readLine firstWord soFar wrongLine meant
   by-first (none x) h = rw (word-none l 0 x) (x, refl, refl)
   by-first (found (plain w) rest b) h = plain-right w rest b (startOf w) refl (first-word w) h
   by-first (found (text w) rest b) h =
@@ -183,7 +183,7 @@ module _ (l kept ends : List ℕ) where
 
     -- a line of the grammar is taken, and says what it says there
     pub reads-fits : (s : Says) → Reads kept ends l s a d → Tells read s a d
-    unfolding saysLine lineOf firstWord soFar meant
+    unfolding saysLine readLine firstWord soFar meant
     reads-fits Nothing h = rw (word-none l 0 (h .0)) (refl, refl, h .1, h .2)
     reads-fits Command h = command-reads h
     reads-fits Raw h = raw-reads (h .0) (h .1)

@@ -14,7 +14,7 @@ pub mod RawLaws
 pub mod Exact
 pub mod Printed
 pub mod Streamed
-pub mod Written
+pub mod Sayable
 pub mod Room
 pub mod Columns
 pub mod Examples

@@ -28,7 +28,7 @@ pub record Pairs (w b : List ℕ) : Type 0 where
 
 -- answer n has the bytes b: among the bytes kept of the answers, they stand between where those of the answer before it end and where its own end.
 -- "An answer that was never given, or that had no bytes, or that is no longer kept, cannot stand there."
-pub record Answered (kept ends : List ℕ) (n : ℕ) (b : List ℕ) : Type 0 where
+pub record OfAnswer (kept ends : List ℕ) (n : ℕ) (b : List ℕ) : Type 0 where
   pub given : (0 < n) × (n < length ends)
   pub before : List ℕ
   pub beyond : List ℕ
@@ -44,7 +44,7 @@ pub record Ordinal (kept ends w b : List ℕ) : Type 0 where
   pub word : w ≡ code "$" ∷ number
   pub some : 0 < length number
   pub ordinal : Number 4294967295 number n
-  pub answer : Answered kept ends n b
+  pub answer : OfAnswer kept ends n b
 
 -- ---- the rows
 

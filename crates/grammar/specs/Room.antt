@@ -17,7 +17,7 @@ use Rattle.stream.specs.Grammar.{Spells}
 use Rattle.stream.specs.RequestLaws.{each, Sound}
 use Rattle.stream.specs.GrammarLaws.{ascending, above, up-to, later, arguments-ordered}
 use Rattle.grammar.specs.Lines.{spelled}
-use Rattle.grammar.specs.Written.{dataWord, wordFor, spaced, written, hex-length, commands-in-capitals, name-good}
+use Rattle.grammar.specs.Sayable.{dataWord, wordFor, spaced, written, hex-length, commands-in-capitals, name-good}
 
 decimal-short : (k n : ℕ) → length (decimalIn k n) ≤ k
 unfolding decimalIn

@@ -39,5 +39,5 @@ firstWord l kept ends (TextWord a e) = wrongLine (a - 1) Name
 firstWord l kept ends (Broken at x) = wrongLine at x
 firstWord l kept ends (NoWord at) = soFar Nothing 0 at (source Letters 0 0)
 
-unfoldable pub lineOf : List ℕ → List ℕ → List ℕ → Line
-lineOf l kept ends = firstWord l kept ends (wordAt l 0)
+unfoldable pub readLine : List ℕ → List ℕ → List ℕ → Line
+readLine l kept ends = firstWord l kept ends (wordAt l 0)

@@ -1,6 +1,6 @@
 // A line, and what it says.
 ghost use mathlib.Core.Path.{_≡_};
-ghost use Rattle.reader.specs.Reader.{aloneLine, saysLine, startedLine, lineOf};
+ghost use Rattle.reader.specs.Reader.{aloneLine, saysLine, startedLine, readLine};
 
 use crate::Line;
 use crate::command::command_line;
@@ -52,7 +52,7 @@ fn started(line: &[u8], kept: &[u8], ends: &[usize], from: usize, at: usize, sta
 
 // What a line says. `kept` has the bytes of the answers so far, and `ends` where each answer's end, the first entry being 0.
 pub fn read_line(line: &[u8], kept: &[u8], ends: &[usize]) -> Line
-    ensures { λ q. ⌜ q ≡ lineOf (now (line .entry)) (now (kept .entry)) (now (ends .entry)) ⌝ }
+    ensures { λ q. ⌜ q ≡ readLine (now (line .entry)) (now (kept .entry)) (now (ends .entry)) ⌝ }
 {
     match word_at(line, 0) {
         Word::PlainWord { start, end } => started(line, kept, ends, start, end, start_of(part_of(line, start, end))),

@@ -38,8 +38,8 @@ replies =
     ∷ []
 
 -- no command gives another number
-unfoldable pub answer : ℕ → List ℕ
-answer reply = beside reply replies (letters "refused")
+unfoldable pub meaning : ℕ → List ℕ
+meaning reply = beside reply replies (letters "refused")
 
 unfoldable pub wordsOf : (tag reply : ℕ) → List ℕ
-wordsOf tag reply = letters "    " ++ (name tag ++ (code " " ∷ (answer reply ++ (code "\n" ∷ []))))
+wordsOf tag reply = letters "    " ++ (name tag ++ (code " " ∷ (meaning reply ++ (code "\n" ∷ []))))

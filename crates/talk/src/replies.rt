@@ -1,7 +1,7 @@
 // A line of words for a command: its name, and what its reply means.
 ghost use mathlib.Core.Path.{_≡_};
 ghost use Rattle.printout.specs.Page.{page, entered};
-ghost use Rattle.talk.specs.Replies.{refused, answer, wordsOf};
+ghost use Rattle.talk.specs.Replies.{refused, meaning, wordsOf};
 
 use names::by_tag::put_name;
 use printout::page::put;
@@ -14,8 +14,8 @@ fn put_refused(paper: &mut [u8], at: usize, why: &[u8]) -> usize
     put_all(&mut paper[..], next, why)
 }
 
-fn put_answer(paper: &mut [u8], at: usize, reply: u8) -> usize
-    ensures { λ r. ⌜ page (now (paper .exit)) r ≡ entered (answer reply) (page (now (paper .entry)) at) ⌝ }
+fn put_meaning(paper: &mut [u8], at: usize, reply: u8) -> usize
+    ensures { λ r. ⌜ page (now (paper .exit)) r ≡ entered (meaning reply) (page (now (paper .entry)) at) ⌝ }
 {
     match reply {
         0 => put_all(&mut paper[..], at, b"done"),
@@ -46,6 +46,6 @@ pub fn put_words(paper: &mut [u8], at: usize, tag: u8, reply: u8) -> usize
     let t1 = put_all(&mut paper[..], at, b"    ");
     let t2 = put_name(&mut paper[..], t1, tag);
     let t3 = put(&mut paper[..], t2, b' ');
-    let t4 = put_answer(&mut paper[..], t3, reply);
+    let t4 = put_meaning(&mut paper[..], t3, reply);
     put(&mut paper[..], t4, b'\n')
 }

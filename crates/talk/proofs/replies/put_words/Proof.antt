@@ -16,7 +16,7 @@ returns c =
         (two (code " " ∷ []) _ _ _ _
           (two (answer _) _ _ _ _
             (c .before .before .put2 .ensures)
-            (c .before .before .before .before .before .before .put-answer .ensures))
+            (c .before .before .before .before .before .before .put-meaning .ensures))
           (c .before .before .before .before .before .before .before .before .before .before .put .ensures))
         (c .before .before .before .before .before .before .before .before .before .before .before .before .before .before .put-name .ensures))
       (c .before .before .before .before .before .before .before .before .before .before .before .before .before .before .before .before .before .before .put-all .ensures)
