@@ -2,7 +2,7 @@ use mathlib.Core.List.{[], _∷_}
 use Prim.Native.Char.{code}
 use Rattle.printout.specs.Text.{letters}
 use Rattle.names.specs.Names.{name}
-use Rattle.talk.specs.Replies.{answer, wordsOf}
+use Rattle.talk.specs.Replies.{meaning, wordsOf}
 use Rattle.printout.specs.Page.{two}
 use borrow.Author.Needs.{needs}
 use Rattle.talk.proofs.replies.put_words.Statement.{statement}
@@ -14,7 +14,7 @@ returns c =
     two (letters "    ") _ _ _ _
       (two (name _) _ _ _ _
         (two (code " " ∷ []) _ _ _ _
-          (two (answer _) _ _ _ _
+          (two (meaning _) _ _ _ _
             (c .before .before .put2 .ensures)
             (c .before .before .before .before .before .before .put-meaning .ensures))
           (c .before .before .before .before .before .before .before .before .before .before .put .ensures))
