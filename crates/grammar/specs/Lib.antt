@@ -13,6 +13,7 @@ pub mod NameLaws
 pub mod RawLaws
 pub mod Exact
 pub mod Printed
+pub mod Sizes
 pub mod Streamed
 pub mod Sayable
 pub mod Room

@@ -1,0 +1,144 @@
+-- Lines of commands: each one's bytes are one whole command of the stream, so that NOTARY answers the bytes of all of them as the desk answered line after line.
+use mathlib.Core.Path.{_≡_, refl, sym, ap, ap₂, _∙_}
+use mathlib.Core.Bool.{Bool, true, false, cond}
+use mathlib.Core.Logic.{_⊎_, inl, inr}
+use mathlib.Core.List.{List, [], _∷_, _++_, append-nil}
+use Prim.Native.Nat.{ℕ, _+_, _<_}
+use native.Mathlib.Omega.{arith}
+use lib.ListN.{length, take}
+use lib.Seq.{take-all}
+use Rattle.ground.specs.Search.{byTest}
+use Rattle.names.specs.declared.Says.{Says}
+use Rattle.names.specs.declared.Says.the-variants.{Nothing, Command, Raw, Help, Who, Quit}
+use Rattle.reader.specs.declared.Line.{Line}
+use Rattle.reader.specs.Reader.{readLine}
+use Rattle.values.specs.Sources.{meant}
+use Rattle.stream.specs.declared.Request.{Request}
+use Rattle.stream.specs.Fields.{Bytes, field}
+use Rattle.stream.specs.Grammar.{spelled}
+use Rattle.encoder.specs.Encoded.{encoded}
+use Rattle.grammar.specs.Says.{Commands, RawBytes, Reads}
+use Rattle.grammar.specs.Exact.{Tells, fits-reads, reads-fits}
+use Rattle.grammar.specs.Streamed.{line-spells, line-short, line-field}
+use Rattle.rules.specs.Commands.{World}
+use Rattle.session.specs.Run.{Ran, ran, ranFrom, over}
+use Rattle.clerk.specs.Spoken.{commandBytes, bytesFor, spoken}
+use Rattle.clerk.specs.Heard.{heard}
+use Rattle.counter.specs.Kept.{Books, allBooked}
+use Rattle.readings.specs.InTurn.{Sent, sent, Short, next, in-parts}
+
+-- ---- a line that says a command
+
+abbrev pub tagged : ℕ → Bytes → Sent
+tagged t v = record { tag = t; value = v }
+
+module _ (kept ends l : List ℕ) where
+  command-bytes : (r : Line) (a : Request) (d : Bytes) → Tells l kept ends r Command a d → length d < 65536 → spoken r l kept ≡ encoded a d
+  unfolding spoken commandBytes
+  command-bytes r a d h short =
+      ap (λ (t : Bool). cond t (bytesFor (r .says) r l kept) []) (h .0)
+      ∙ ap (λ (s : Says). bytesFor s r l kept) (h .1)
+      ∙ ap₂ (λ (q : Request) (x : Bytes). encoded q (take 65536 x)) (h .2) (h .3)
+      ∙ ap (encoded a) (take-all 65536 d (omega arith))
+
+  -- is spoken as one command of the stream, with its tag and its fields
+  pub command-spoken : (a : Request) (d : Bytes) (h : Commands kept ends l a d) → spoken (readLine l kept ends) l kept ≡ sent (tagged (a .tag) (spelled (h .arguments) a d) ∷ [])
+  unfolding sent
+  command-spoken a d h =
+      command-bytes (readLine l kept ends) a d (reads-fits l kept ends a d Command h) (line-spells kept ends l a d h .short)
+      ∙ line-field kept ends l a d h
+      ∙ sym (append-nil (field (a .tag) (spelled (h .arguments) a d)))
+
+-- ---- the desk's lines, one after the other
+
+-- the bytes of a line of at most 131072 letters, with these answers before it
+unfoldable pub said : Books → List ℕ → Bytes
+said b l = spoken (heard false l (b .bytes .letters) (take (b .count + 1) (b .ends))) l (b .bytes .letters)
+
+-- each line carried out in the world that the one before it left, with the answers so far
+unfoldable pub lineByLine : List (List ℕ) → World → Bytes → Books → Ran
+lineByLine [] w out b = ran w out []
+lineByLine (l ∷ ls) w out b = next (ranFrom (said b l) w out 0) (λ w′ out′. lineByLine ls w′ out′ (allBooked (ranFrom (said b l) w out 0 .answers) b))
+
+-- their bytes, as the scribe writes them
+unfoldable pub written : List (List ℕ) → World → Bytes → Books → Bytes
+written [] w out b = []
+written (l ∷ ls) w out b =
+    said b l ++ written ls (ranFrom (said b l) w out 0 .world) (ranFrom (said b l) w out 0 .output) (allBooked (ranFrom (said b l) w out 0 .answers) b)
+
+-- none of them says raw bytes, which may be cut
+abbrev pub NoRaw : List (List ℕ) → Type 0
+NoRaw [] = Unit {0}
+NoRaw (l ∷ ls) = ((d : Bytes) → RawBytes l d → ⊥) × NoRaw ls
+
+-- so each has the bytes of one command, or none
+module _ (b : Books) (l : List ℕ) (no-raw : (d : Bytes) → RawBytes l d → ⊥) where
+  abbrev kept : List ℕ
+  kept = b .bytes .letters
+
+  abbrev ends : List ℕ
+  ends = take (b .count + 1) (b .ends)
+
+  abbrev read : Line
+  read = readLine l kept ends
+
+  abbrev OneOrNone : Type 0
+  OneOrNone = (said b l ≡ []) ⊎ ((c : Sent) × (length (c .value) < 65536) × (said b l ≡ sent (c ∷ [])))
+
+  spoken-as : (s : Says) → read .fits ≡ true → read .says ≡ s → said b l ≡ bytesFor s read l kept
+  unfolding said spoken heard
+  spoken-as s f e = ap (λ (t : Bool). cond t (bytesFor (read .says) read l kept) []) f ∙ ap (λ (x : Says). bytesFor x read l kept) e
+
+  by-says : (s : Says) → read .fits ≡ true → read .says ≡ s → Reads kept ends l s (read .asked) (meant (read .bytes) l kept) → OneOrNone
+  unfolding said heard
+  by-says Nothing f e h = inl (spoken-as Nothing f e)
+  by-says Command f e h =
+      let a = read .asked in
+      let d = meant (read .bytes) l kept in
+      inr (tagged (a .tag) (spelled (h .arguments) a d), line-short kept ends l a d h, command-spoken kept ends l a d h)
+  by-says Raw f e h = absurd (no-raw (meant (read .bytes) l kept) (h .0))
+  by-says Help f e h = inl (spoken-as Help f e)
+  by-says Who f e h = inl (spoken-as Who f e)
+  by-says Quit f e h = inl (spoken-as Quit f e)
+
+  one-or-none : OneOrNone
+  unfolding said spoken heard
+  one-or-none =
+      byTest (read .fits)
+      (λ f. by-says (read .says) f refl (fits-reads l kept ends f))
+      (λ f. inl (ap (λ (t : Bool). cond t (bytesFor (read .says) read l kept) []) f))
+
+  -- in front of other commands
+  abbrev Front : Type 0
+  Front = (cs : List Sent) × Short cs × (said b l ≡ sent cs) × ((ds : List Sent) → Short ds → (es : List Sent) × Short es × (sent cs ++ sent ds ≡ sent es))
+
+  front : OneOrNone → Front
+  unfolding sent
+  front (inl e) = ([], tt, e, λ ds h. (ds, h, refl))
+  front (inr x) = (x .0 ∷ [], (x .1, tt), x .2, λ ds h. (x .0 ∷ ds, (x .1, h), ap (λ (v : Bytes). v ++ sent ds) (append-nil (field (x .0 .tag) (x .0 .value)))))
+
+-- the lines' bytes are commands
+sends : (ls : List (List ℕ)) → NoRaw ls → (w : World) (out : Bytes) (b : Books) → (cs : List Sent) × Short cs × (written ls w out b ≡ sent cs)
+unfolding written sent
+sends [] h w out b = ([], tt, refl)
+sends (l ∷ ls) h w out b =
+    let r = ranFrom (said b l) w out 0 in
+    let f = front b l (h .0) (one-or-none b l (h .0)) in
+    let rest = sends ls (h .1) (r .world) (r .output) (allBooked (r .answers) b) in
+    let all = f .3 (rest .0) (rest .1) in
+    (all .0, all .1, ap₂ (λ (x y : Bytes). x ++ y) (f .2) (rest .2) ∙ all .2)
+
+-- given to NOTARY at once, they are answered as line after line
+pub at-once : (ls : List (List ℕ)) → NoRaw ls → (w : World) (out : Bytes) (b : Books) → ranFrom (written ls w out b) w out 0 ≡ lineByLine ls w out b
+unfolding written lineByLine next
+at-once [] h w out b = over [] w out 0 (omega arith)
+at-once (l ∷ ls) h w out b =
+    let r = ranFrom (said b l) w out 0 in
+    let later = written ls (r .world) (r .output) (allBooked (r .answers) b) in
+    let f = front b l (h .0) (one-or-none b l (h .0)) in
+    let rest = sends ls (h .1) (r .world) (r .output) (allBooked (r .answers) b) in
+    let parts : ranFrom (said b l ++ later) w out 0 ≡ next r (λ w′ out′. ranFrom later w′ out′ 0) =
+        ap₂ (λ (x y : Bytes). ranFrom (x ++ y) w out 0) (f .2) (rest .2)
+        ∙ in-parts (f .0) (rest .0) (f .1) (rest .1) w out
+        ∙ ap₂ (λ (x y : Bytes). next (ranFrom x w out 0) (λ w′ out′. ranFrom y w′ out′ 0)) (sym (f .2)) (sym (rest .2)) in
+    parts ∙ ap (λ (x : Ran). ran (x .world) (x .output) (r .answers ++ x .answers)) (at-once ls (h .1) (r .world) (r .output) (allBooked (r .answers) b))
