@@ -48,7 +48,7 @@ fn converse(held_back: &mut Vec<u8>) -> Result<()> {
     let mut input = stdin().lock();
     let mut desk = Desk::fresh();
     if asks {
-        write_out(b"The desk of the key notarization facility. help lists the commands.\n")?;
+        write_out(b"The desk of the key notarization facility. help lists the commands, quit leaves.\n")?;
     }
     loop {
         if asks {

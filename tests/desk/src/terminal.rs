@@ -14,6 +14,8 @@ const PATIENCE: Duration = Duration::from_secs(10);
 const QUIET: Duration = Duration::from_millis(60);
 
 const PROMPT: &str = "> ";
+const GREETING: &str =
+    "The desk of the key notarization facility. help lists the commands, quit leaves.\r\n> ";
 const END_OF_INPUT: &[u8] = b"\x04";
 
 /// What a person types: a mistake, its correction, `$n`, who and help among it.
@@ -129,15 +131,15 @@ fn told<T>(result: Result<T>) -> Checked<T> {
     result.map_err(|error| error.to_string())
 }
 
-/// The desk at a new terminal, its greeting read: something, a line's end, and the first prompt.
+/// The desk at a new terminal, its greeting and the first prompt read.
 fn greeted(desk: &Program) -> Checked<(Terminal, Heard)> {
     let (terminal, source) = told(Terminal::start(desk, false))?;
     let mut heard = Heard { source, text: Vec::new() };
     let greeting = heard.until(|text| text.ends_with(PROMPT))?;
-    if greeting.len() > PROMPT.len() && greeting.ends_with("\n> ") {
+    if greeting == GREETING {
         Ok((terminal, heard))
     } else {
-        Err(format!("no greeting: {greeting:?}"))
+        Err(format!("the greeting is {greeting:?}"))
     }
 }
 
