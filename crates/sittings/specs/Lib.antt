@@ -2,3 +2,4 @@ pub mod Pages
 pub mod Answers
 pub mod Books
 pub mod ByLine
+pub mod Outputs
