@@ -3,3 +3,4 @@ pub mod Answers
 pub mod Books
 pub mod ByLine
 pub mod Outputs
+pub mod Room
