@@ -50,6 +50,7 @@ use Rattle.clerk.specs.Wrong.{expectedText, column, wrongText}
 use Rattle.clerk.specs.Told.{toldFor, told}
 use Rattle.clerk.specs.Heard.{wrongBefore, cutAt, heard}
 use Rattle.clerk.specs.Spoken.{spoken}
+use Rattle.readings.specs.InTurn.{sent}
 use Rattle.sittings.specs.Pages.{whole-there}
 use Rattle.sittings.specs.Answers.{bytesOf}
 use Rattle.sittings.specs.ByLine.{spoken-as, unspoken, command-spoken}
@@ -111,9 +112,9 @@ expected-length ClosingQuote = omega arith
 expected-length SpaceAfterQuote = omega arith
 expected-length NothingMore = omega arith
 
-wrong-length : (number place : ℕ) (e : Expected) → length (wrongText number place e) ≤ 70000
+pub wrong-room : (number place : ℕ) (e : Expected) → length (wrongText number place e) ≤ 70000
 unfolding wrongText
-wrong-length number place e =
+wrong-room number place e =
     let end = expectedText e ++ (code "\n" ∷ []) in
     let from = decimal (column place) ++ (letters ": expected " ++ end) in
     omega (arith, twenty number, twenty (column place), expected-length e, length-append (expectedText e) (code "\n" ∷ []), length-append (decimal (column place)) (letters ": expected " ++ end), length-append (decimal number) (letters ", column " ++ from))
@@ -173,4 +174,116 @@ says-length Quit ps h = omega arith
 pub told-room : (number : ℕ) (said : Line) (ps : List Place) → length ps ≤ 16 → length (told number said ps) ≤ 70000
 unfolding told
 told-room number said ps h =
-    byTest (said .fits) (λ e. rw e (says-length (said .says) ps h)) (λ e. rw e (wrong-length number (said .at) (said .expected)))
+    byTest (said .fits) (λ e. rw e (says-length (said .says) ps h)) (λ e. rw e (wrong-room number (said .at) (said .expected)))
+
+-- ---- a line's bytes
+
+-- hex digits in pairs are twice as many letters as bytes
+pairs-length : (ps : List Piece) (l : List ℕ) (d : Bytes) → Lines ps l → InPairs ps d → 2 * length d ≤ length l
+pairs-length [] l d line e = omega (arith, ap length e)
+pairs-length (plain w ∷ ps) l d line x =
+    let rest = line .0 in
+    let b = line .1 in
+    omega (
+      arith,
+      pairs-length ps rest (x .1) (line .2) (x .3),
+      ap length (x .4),
+      length-append (x .0) (x .1),
+      ap length (x .2 .value),
+      unhex-length w,
+      ap length (b .whole),
+      length-append (b .blanks) (w ++ rest),
+      length-append w rest,
+    )
+pairs-length (text w ∷ ps) l d line x = absurd x
+
+raw-length : (l : List ℕ) (d : Bytes) → RawBytes l d → 2 * length d ≤ length l
+raw-length l d h =
+    let b = h .line .1 in
+    let rest = h .line .0 in
+    omega (arith, pairs-length (h .words) rest d (h .line .2) (h .bytes), ap length (b .whole), length-append (b .blanks) (letters "!" ++ rest))
+
+command-length : (kept ends l : List ℕ) (a : Request) (d : Bytes) → Commands kept ends l a d → length (spoken (readLine l kept ends) l kept) ≤ 65538
+unfolding sent
+command-length kept ends l a d h =
+    let v = spelled (h .arguments) a d in
+    omega (arith, ap length (command-spoken kept ends l a d h), length-append (field (a .tag) v) [], field-length (a .tag) v, line-short kept ends l a d h)
+
+-- a line that has more letters than are read does not fit
+longer-wrong : (l kept ends : List ℕ) → heard true l kept ends .fits ≡ false
+unfolding heard cutAt wrongBefore wrongLine
+longer-wrong l kept ends =
+    let r = readLine l kept ends in
+    byTest (r .fits)
+    (λ e. rw e)
+    (λ e. byTest (ltb (r .at) (length l)) (λ t. rw (e, t)) (λ t. rw (e, t)))
+
+module _ (l kept ends : List ℕ) (h : length l ≤ 131072) where
+  abbrev read : Line
+  read = readLine l kept ends
+
+  by-says : (s : Says) → read .fits ≡ true → read .says ≡ s → Reads kept ends l s (read .asked) (meant (read .bytes) l kept) → length (spoken read l kept) ≤ 65538
+  by-says Nothing f e x = omega (arith, ap length (spoken-as read l kept Nothing f e))
+  by-says Command f e x = command-length kept ends l (read .asked) (meant (read .bytes) l kept) x
+  by-says Raw f e x = omega (arith, h, ap length (spoken-as read l kept Raw f e), raw-length l (meant (read .bytes) l kept) (x .0))
+  by-says Help f e x = omega (arith, ap length (spoken-as read l kept Help f e))
+  by-says Who f e x = omega (arith, ap length (spoken-as read l kept Who f e))
+  by-says Quit f e x = omega (arith, ap length (spoken-as read l kept Quit f e))
+
+  -- of a line that has at most 131072 letters, or of which these are read
+  pub spoken-room : (longer : Bool) → length (spoken (heard longer l kept ends) l kept) ≤ 65538
+  unfolding heard
+  spoken-room false =
+      byTest (read .fits)
+      (λ f. by-says (read .says) f refl (fits-reads l kept ends f))
+      (λ f. omega (arith, ap length (unspoken read l kept f)))
+  spoken-room true = omega (arith, ap length (unspoken (heard true l kept ends) l kept (longer-wrong l kept ends)))
+
+-- ---- the answers to a piece of stream
+
+abbrev pub Each : (Answered → Type 0) → List Answered → Type 0
+Each P [] = Unit {0}
+Each P (a ∷ rest) = P a × Each P rest
+
+-- each is of at most 32768 bytes, where the output is; and the output stays as long as it is
+abbrev Short : Answered → Type 0
+Short a = length (bytesOf a) ≤ 32768
+
+abbrev Kept : Bytes → Ran → Type 0
+Kept out r = (length (r .output) ≡ length out) × Each Short (r .answers)
+
+module _ (s : Bytes) where
+  one-kept : (n : ℕ) → ((w : World) (out : Bytes) (at : ℕ) → length out ≤ 32768 → Kept out (carryOn n s w out at))
+      → (w : World) (out : Bytes) (f : Field) → length out ≤ 32768 → Kept out (goOn (carryOn n s) w out s f)
+  one-kept n ih w out (Whole tag start end) h =
+      let v = part start end s in
+      let r = answerTo w tag v out in
+      let size = same-output w tag v out in
+      let rest = ih (r .world) (r .answered .output) end (omega (arith, h, size)) in
+      (rest .0 ∙ size, (shown-short w tag v out 32768 (omega arith) h, rest .1))
+  one-kept n ih w out (Cut tag) h = (refl, (omega arith, tt))
+  one-kept n ih w out End h = (refl, tt)
+
+  all-kept : (n : ℕ) (w : World) (out : Bytes) (at : ℕ) → length out ≤ 32768 → Kept out (carryOn n s w out at)
+  unfolding carryOn
+  all-kept zero w out at h = (refl, tt)
+  all-kept (suc n) w out at h = one-kept n (all-kept n) w out (fieldAt s at) h
+
+  pub answers-short : (w : World) (out : Bytes) (at : ℕ) → length out ≤ 32768
+      → (length (ranFrom s w out at .output) ≡ length out) × Each (λ a. length (bytesOf a) ≤ 32768) (ranFrom s w out at .answers)
+  unfolding ranFrom
+  answers-short w out at h = all-kept (length s) w out at h
+
+-- ---- whole, from the start of the paper or of the piece, whatever stood there
+
+pub reply-whole : (ordinal : ℕ) (a : Answered) (paper : List ℕ) → length (bytesOf a) ≤ 32768 → 70000 ≤ length paper
+    → let p = entered (reply ordinal a) (page paper 0) in take (p .filled) (p .letters) ≡ reply ordinal a
+reply-whole ordinal a paper h room = whole-there (reply ordinal a) paper (omega (arith, reply-room ordinal a h, room))
+
+pub told-whole : (number : ℕ) (said : Line) (ps : List Place) (paper : List ℕ) → length ps ≤ 16 → 70000 ≤ length paper
+    → let p = entered (told number said ps) (page paper 0) in take (p .filled) (p .letters) ≡ told number said ps
+told-whole number said ps paper h room = whole-there (told number said ps) paper (omega (arith, told-room number said ps h, room))
+
+pub spoken-whole : (longer : Bool) (l kept ends piece : List ℕ) → length l ≤ 131072 → 65538 ≤ length piece
+    → let p = entered (spoken (heard longer l kept ends) l kept) (page piece 0) in take (p .filled) (p .letters) ≡ spoken (heard longer l kept ends) l kept
+spoken-whole longer l kept ends piece h room = whole-there (spoken (heard longer l kept ends) l kept) piece (omega (arith, spoken-room l kept ends h longer, room))
