@@ -27,7 +27,7 @@ decimal-short (suc k) n =
     let i = decimal-short k (n / 10) in
     byTest (ltb n 10) (λ e. rw e (omega arith)) (λ e. rw e (omega (arith, i, length-append (decimalIn k (n / 10)) ((48 + n % 10) ∷ []))))
 
-twenty : (n : ℕ) → length (decimal n) ≤ 20
+pub twenty : (n : ℕ) → length (decimal n) ≤ 20
 unfolding decimal
 twenty n = decimal-short 20 n
 

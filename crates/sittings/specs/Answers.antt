@@ -1,12 +1,13 @@
 -- "The desk keeps the bytes of its answers for `$n`: of the first 4096 answers, while they find room in 1048576 bytes."
-use mathlib.Core.Path.{_≡_}
+use mathlib.Core.Path.{_≡_, refl}
 use mathlib.Core.Bool.{cond}
 use mathlib.Core.List.{List, [], _∷_, _++_}
 use Prim.Native.Nat.{ℕ, suc, _+_, _≤_, _<_}
 use lib.Dec.{leb}
-use lib.ListN.{length, getD}
+use lib.ListN.{length, getD, replicate, length-replicate}
+use Rattle.printout.specs.Page.{page}
 use Rattle.session.specs.Run.{Answered, shownOf}
-use Rattle.counter.specs.Kept.{Books}
+use Rattle.counter.specs.Kept.{Books, books}
 
 abbrev pub bytesOf : Answered → List ℕ
 bytesOf a = shownOf (a .told .answer) (a .told .block) (a .told .output)
@@ -38,3 +39,7 @@ pub record Fresh (first room : ℕ) (b : Books) : Type 0 where
   pub size : length (b .bytes .letters) ≡ room
   pub marks : length (b .ends) ≡ suc first
   pub start : getD (b .ends) 0 0 ≡ 0
+
+-- so are those with which the desk begins
+pub fresh-books : (first room : ℕ) → Fresh first room (books 0 (page (replicate room 0) 0) (replicate (suc first) 0))
+fresh-books first room = record { none = refl; empty = refl; size = length-replicate room 0; marks = length-replicate (suc first) 0; start = refl }

@@ -18,7 +18,7 @@ use Rattle.stream.specs.Fields.{Bytes, field}
 use Rattle.stream.specs.Grammar.{spelled}
 use Rattle.encoder.specs.Encoded.{encoded}
 use Rattle.grammar.specs.Says.{Commands, RawBytes, Reads}
-use Rattle.grammar.specs.Exact.{Tells, fits-reads, reads-fits}
+use Rattle.grammar.specs.Exact.{fits-reads, reads-fits}
 use Rattle.grammar.specs.Streamed.{line-spells, line-short, line-field}
 use Rattle.rules.specs.Commands.{World}
 use Rattle.session.specs.Run.{Ran, ran, ranFrom, over}
@@ -32,22 +32,27 @@ use Rattle.readings.specs.InTurn.{Sent, sent, Short, next, in-parts}
 abbrev pub tagged : ℕ → Bytes → Sent
 tagged t v = record { tag = t; value = v }
 
-module _ (kept ends l : List ℕ) where
-  command-bytes : (r : Line) (a : Request) (d : Bytes) → Tells l kept ends r Command a d → length d < 65536 → spoken r l kept ≡ encoded a d
-  unfolding spoken commandBytes
-  command-bytes r a d h short =
-      ap (λ (t : Bool). cond t (bytesFor (r .says) r l kept) []) (h .0)
-      ∙ ap (λ (s : Says). bytesFor s r l kept) (h .1)
-      ∙ ap₂ (λ (q : Request) (x : Bytes). encoded q (take 65536 x)) (h .2) (h .3)
-      ∙ ap (encoded a) (take-all 65536 d (omega arith))
+-- a line that fits is spoken as what it says, and any other not at all
+module _ (r : Line) (l kept : List ℕ) where
+  pub spoken-as : (s : Says) → r .fits ≡ true → r .says ≡ s → spoken r l kept ≡ bytesFor s r l kept
+  unfolding spoken
+  spoken-as s f e = ap (λ (t : Bool). cond t (bytesFor (r .says) r l kept) []) f ∙ ap (λ (x : Says). bytesFor x r l kept) e
 
-  -- is spoken as one command of the stream, with its tag and its fields
-  pub command-spoken : (a : Request) (d : Bytes) (h : Commands kept ends l a d) → spoken (readLine l kept ends) l kept ≡ sent (tagged (a .tag) (spelled (h .arguments) a d) ∷ [])
-  unfolding sent
-  command-spoken a d h =
-      command-bytes (readLine l kept ends) a d (reads-fits l kept ends a d Command h) (line-spells kept ends l a d h .short)
-      ∙ line-field kept ends l a d h
-      ∙ sym (append-nil (field (a .tag) (spelled (h .arguments) a d)))
+  pub unspoken : r .fits ≡ false → spoken r l kept ≡ []
+  unfolding spoken
+  unspoken f = ap (λ (t : Bool). cond t (bytesFor (r .says) r l kept) []) f
+
+-- a command is spoken as one command of the stream, with its tag and its fields
+pub command-spoken : (kept ends l : List ℕ) (a : Request) (d : Bytes) (h : Commands kept ends l a d) → spoken (readLine l kept ends) l kept ≡ sent (tagged (a .tag) (spelled (h .arguments) a d) ∷ [])
+unfolding commandBytes sent
+command-spoken kept ends l a d h =
+    let r = readLine l kept ends in
+    let t = reads-fits l kept ends a d Command h in
+    spoken-as r l kept Command (t .0) (t .1)
+    ∙ ap₂ (λ (q : Request) (x : Bytes). encoded q (take 65536 x)) (t .2) (t .3)
+    ∙ ap (encoded a) (take-all 65536 d (omega (arith, line-spells kept ends l a d h .short)))
+    ∙ line-field kept ends l a d h
+    ∙ sym (append-nil (field (a .tag) (spelled (h .arguments) a d)))
 
 -- ---- the desk's lines, one after the other
 
@@ -85,28 +90,21 @@ module _ (b : Books) (l : List ℕ) (no-raw : (d : Bytes) → RawBytes l d → �
   abbrev OneOrNone : Type 0
   OneOrNone = (said b l ≡ []) ⊎ ((c : Sent) × (length (c .value) < 65536) × (said b l ≡ sent (c ∷ [])))
 
-  spoken-as : (s : Says) → read .fits ≡ true → read .says ≡ s → said b l ≡ bytesFor s read l kept
-  unfolding said spoken heard
-  spoken-as s f e = ap (λ (t : Bool). cond t (bytesFor (read .says) read l kept) []) f ∙ ap (λ (x : Says). bytesFor x read l kept) e
-
   by-says : (s : Says) → read .fits ≡ true → read .says ≡ s → Reads kept ends l s (read .asked) (meant (read .bytes) l kept) → OneOrNone
   unfolding said heard
-  by-says Nothing f e h = inl (spoken-as Nothing f e)
+  by-says Nothing f e h = inl (spoken-as read l kept Nothing f e)
   by-says Command f e h =
       let a = read .asked in
       let d = meant (read .bytes) l kept in
       inr (tagged (a .tag) (spelled (h .arguments) a d), line-short kept ends l a d h, command-spoken kept ends l a d h)
   by-says Raw f e h = absurd (no-raw (meant (read .bytes) l kept) (h .0))
-  by-says Help f e h = inl (spoken-as Help f e)
-  by-says Who f e h = inl (spoken-as Who f e)
-  by-says Quit f e h = inl (spoken-as Quit f e)
+  by-says Help f e h = inl (spoken-as read l kept Help f e)
+  by-says Who f e h = inl (spoken-as read l kept Who f e)
+  by-says Quit f e h = inl (spoken-as read l kept Quit f e)
 
   one-or-none : OneOrNone
-  unfolding said spoken heard
-  one-or-none =
-      byTest (read .fits)
-      (λ f. by-says (read .says) f refl (fits-reads l kept ends f))
-      (λ f. inl (ap (λ (t : Bool). cond t (bytesFor (read .says) read l kept) []) f))
+  unfolding said heard
+  one-or-none = byTest (read .fits) (λ f. by-says (read .says) f refl (fits-reads l kept ends f)) (λ f. inl (unspoken read l kept f))
 
   -- in front of other commands
   abbrev Front : Type 0
