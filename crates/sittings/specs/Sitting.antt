@@ -7,7 +7,7 @@ use lib.ListN.{take}
 use Rattle.stream.specs.Fields.{Bytes}
 use Rattle.grammar.specs.Means.{OfAnswer}
 use Rattle.rules.specs.Commands.{World}
-use Rattle.session.specs.Run.{Answered, Ran, ranFrom}
+use Rattle.session.specs.Run.{Answered, ranFrom}
 use Rattle.counter.specs.Kept.{Books, booked, allBooked}
 use Rattle.counter.specs.Service.{Carried, carried, withAnswers, carriedOut}
 use Rattle.readings.specs.InTurn.{next}
