@@ -117,7 +117,15 @@ unfolding wrongText
 wrong-room number place e =
     let end = expectedText e ++ (code "\n" ∷ []) in
     let from = decimal (column place) ++ (letters ": expected " ++ end) in
-    omega (arith, twenty number, twenty (column place), expected-length e, length-append (expectedText e) (code "\n" ∷ []), length-append (decimal (column place)) (letters ": expected " ++ end), length-append (decimal number) (letters ", column " ++ from))
+    omega (
+      arith,
+      twenty number,
+      twenty (column place),
+      expected-length e,
+      length-append (expectedText e) (code "\n" ∷ []),
+      length-append (decimal (column place)) (letters ": expected " ++ end),
+      length-append (decimal number) (letters ", column " ++ from),
+    )
 
 help-length : length help ≤ 70000
 unfolding help
