@@ -43,6 +43,6 @@ pub record Fresh (first room : ℕ) (b : Books) : Type 0 where
   pub marks : length (b .ends) ≡ suc first
   pub start : getD (b .ends) 0 0 ≡ 0
 
--- so are those with which the desk begins
+-- such are those with which the desk begins
 pub fresh-books : (first room : ℕ) → Fresh first room (books 0 (page (replicate room 0) 0) (replicate (suc first) 0))
 fresh-books first room = record { none = refl; empty = refl; size = length-replicate room 0; marks = length-replicate (suc first) 0; start = refl }

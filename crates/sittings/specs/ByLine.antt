@@ -70,13 +70,16 @@ written [] w out b = []
 written (l ∷ ls) w out b =
     said b l ++ written ls (ranFrom (said b l) w out 0 .world) (ranFrom (said b l) w out 0 .output) (allBooked (ranFrom (said b l) w out 0 .answers) b)
 
--- each one's raw bytes, if it says any, are whole commands
+-- raw bytes, if the line says any, are whole commands
+abbrev pub WholeLine : List ℕ → Type 0
+WholeLine l = (d : Bytes) → RawBytes l d → (cs : List Sent) × Short cs × (d ≡ sent cs)
+
 abbrev pub Whole : List (List ℕ) → Type 0
 Whole [] = Unit {0}
-Whole (l ∷ ls) = ((d : Bytes) → RawBytes l d → (cs : List Sent) × Short cs × (d ≡ sent cs)) × Whole ls
+Whole (l ∷ ls) = WholeLine l × Whole ls
 
--- then its bytes are whole commands, whatever it says
-module _ (b : Books) (l : List ℕ) (whole : (d : Bytes) → RawBytes l d → (cs : List Sent) × Short cs × (d ≡ sent cs)) where
+-- then a line's bytes are whole commands, whatever it says
+module _ (b : Books) (l : List ℕ) (whole : WholeLine l) where
   abbrev kept : List ℕ
   kept = b .bytes .letters
 
