@@ -39,7 +39,10 @@ on-page (x ∷ xs) b m h =
     next : Bool → List ℕ
     next room = written (entered xs (cond room (page (set b m x) (m + 1)) (page b m)))
 
--- of a text put onto a buffer of n zeros, the first n letters stand there
+-- of a text put onto a buffer from its start, as many letters stand there as the buffer has room for
+pub put-over : (b xs letters : List ℕ) (filled : ℕ) → page letters filled ≡ entered xs (page b 0) → take filled letters ≡ take (length b) xs
+put-over b xs letters filled e = ap written e ∙ on-page xs b 0 (omega arith) ∙ ap (λ (j : ℕ). take j xs) (sub-zero (length b))
+
+-- a buffer of n zeros
 pub put-fresh : (n : ℕ) (xs letters : List ℕ) (filled : ℕ) → page letters filled ≡ entered xs (page (replicate n 0) 0) → take filled letters ≡ take n xs
-put-fresh n xs letters filled e =
-    ap written e ∙ on-page xs (replicate n 0) 0 (omega arith) ∙ ap (λ (j : ℕ). take j xs) (sub-zero (length (replicate n 0)) ∙ length-replicate n 0)
+put-fresh n xs letters filled e = put-over (replicate n 0) xs letters filled e ∙ ap (λ (j : ℕ). take j xs) (length-replicate n 0)

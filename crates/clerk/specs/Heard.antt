@@ -1,4 +1,4 @@
--- "A line has at most 131072 letters": one that has more is wrong after them, where it is not wrong before.
+-- "A line of more than 131072 letters is read as if it ended after these. Where that is wrong before its end, that is said; otherwise it is wrong at column 131073".
 use mathlib.Core.Bool.{Bool, false, cond}
 use mathlib.Core.List.{List}
 use Prim.Native.Nat.{ℕ}

@@ -1,4 +1,4 @@
-// What the programs of the desk's page share: what a line says, its bytes in the stream, what is said of a line and to a command, and an answer's parts.
+// One line, or one answer: what a line says, its bytes in the stream, what the desk says to it, and an answer's parts and words. Nothing here lasts from line to line.
 pub mod answers;
 pub mod bytes;
 pub mod heard;

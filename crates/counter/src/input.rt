@@ -1,6 +1,9 @@
 // Lines from standard input, letter by letter, so that each is answered before the next is waited for.
 ghost use mathlib.Core.Path.{_≡_};
-ghost use Rattle.counter.specs.Input.{partly, oneMore, isLast};
+ghost use mathlib.Core.Bool.{true};
+ghost use mathlib.Core.List.{List};
+ghost use Prim.Native.Nat.{ℕ};
+ghost use Rattle.counter.specs.Input.{partly, oneMore, noFeed, lineIn, isLast};
 
 use clerk::told::is_quit;
 use printout::page::put;
@@ -38,8 +41,10 @@ fn next_letter() -> Letter {
     if got == 1 { Letter::Came(one[0]) } else { Letter::Ended }
 }
 
-// The next line, without its line feed; not complete where the input has ended.
-pub fn next_line(line: &mut [u8]) -> Got {
+// The next line, without its line feed; not complete where the input has ended. (What the input holds no contract can say: this one says that some line stands there.)
+pub fn next_line(line: &mut [u8]) -> Got
+    ensures { λ r. ⌜ ((l : List ℕ) × (noFeed l ≡ true) × (partly (now (line .exit)) r ≡ lineIn (now (line .entry)) (r .complete) l)) ⌝ }
+{
     let mut got = Got { letters: 0, longer: false, complete: false };
     let mut turns = u64::MAX;
     while 0 < turns {

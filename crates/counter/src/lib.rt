@@ -1,4 +1,5 @@
-// What the desk and the scribe share: lines from standard input, the answers kept, and a piece of stream carried out.
+// What lasts from line to line, and where the lines come from: standard input, the facility with its answers so far, and a line served.
 pub mod input;
 pub mod kept;
+pub mod line;
 pub mod service;

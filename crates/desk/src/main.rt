@@ -1,17 +1,15 @@
 // The desk: lines of words on standard input, each carried out at once and answered in words.
-use clerk::bytes::put_spoken;
-use clerk::heard::hear;
 use clerk::told::put_told;
 use counter::input::is_last;
 use counter::input::next_line;
-use counter::kept::ends_of;
 use counter::kept::room;
+use counter::line::serve_line;
 use counter::service::Desk;
-use counter::service::carry_out;
 use io::write_all;
 use printout::page::first_of;
-use state::places::fresh_facility;
 use reader::Line;
+use state::Facility;
+use state::places::fresh_facility;
 
 // On a terminal the desk greets and asks for each line; in a pipe it only answers.
 fn at_terminal() -> bool {
@@ -39,12 +37,10 @@ fn part(asks: bool, complete: bool) {
     }
 }
 
-// A line answered: by the desk itself, or by the facility.
-fn answer(desk: Desk, number: usize, said: Line, line: &[u8], table: &mut [u8], out: &mut [u8], kept: &mut [u8], ends: &mut [usize], piece: &mut [u8], paper: &mut [u8]) -> Desk {
-    let told = put_told(&mut paper[..], 0, number, said, desk.state);
+// What the desk itself says of a line: nothing where the facility answers it.
+fn tell(number: usize, said: Line, state: Facility, paper: &mut [u8]) {
+    let told = put_told(&mut paper[..], 0, number, said, state);
     write_all(libc::STDOUT_FILENO, first_of(&paper[..], told));
-    let spoken = put_spoken(&mut piece[..], said, line, &kept[..]);
-    carry_out(desk, true, first_of(&piece[..], spoken), &mut table[..], &mut out[..], &mut kept[..], &mut ends[..], &mut paper[..])
 }
 
 // The lines one after the other, each answered before the next is read.
@@ -55,12 +51,14 @@ fn serve(asks: bool, line: &mut [u8], table: &mut [u8], out: &mut [u8], kept: &m
         number += 1;
         ask(asks);
         let got = next_line(&mut line[..]);
-        let said = hear(first_of(&line[..], got.letters), got.longer, &kept[..], ends_of(&ends[..], desk.answers));
-        desk = answer(desk, number, said, first_of(&line[..], got.letters), &mut table[..], &mut out[..], &mut kept[..], &mut ends[..], &mut piece[..], &mut paper[..]);
+        let served = serve_line(desk, true, first_of(&line[..], got.letters), got.longer, &mut table[..], &mut out[..], &mut kept[..], &mut ends[..], &mut piece[..], &mut paper[..]);
+        let said = served.said;
+        tell(number, said, desk.state, &mut paper[..]);
         if is_last(got, said) {
             part(asks, got.complete);
             return;
         }
+        desk = served.desk;
     }
     write_all(libc::STDOUT_FILENO, b"the desk has read 1000000 lines, and stops\n");
 }

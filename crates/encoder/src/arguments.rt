@@ -38,6 +38,7 @@ fn put_argument(paper: &mut [u8], at: usize, argument: u8, asked: Request, text:
         _ => put_field(&mut paper[..], at, argument, &text[..0]),
     }
 }
+
 // The argument fields of a command, one after the other.
 pub(crate) fn put_arguments(paper: &mut [u8], at: usize, arguments: [u8; 5], asked: Request, text: &[u8]) -> usize
     ensures { λ r. ⌜ page (now (paper .exit)) r ≡ entered (allFields arguments asked (now (text .entry))) (page (now (paper .entry)) at) ⌝ }

@@ -1,4 +1,4 @@
--- What a line says, written without the reader. `kept` has the bytes of the answers so far, and `ends` where each one's end.
+-- What a line says, written without the reader. `kept` is the room for the answers' bytes, filled from its start, and `ends` says where each answer's end there.
 use mathlib.Core.Path.{_≡_}
 use mathlib.Core.Bool.{false}
 use mathlib.Core.Option.{some}

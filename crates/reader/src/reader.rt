@@ -50,7 +50,7 @@ fn started(line: &[u8], kept: &[u8], ends: &[usize], from: usize, at: usize, sta
     }
 }
 
-// What a line says. `kept` has the bytes of the answers so far, and `ends` where each answer's end, the first entry being 0.
+// What a line says. `kept` is the room for the answers' bytes, filled from its start, and `ends` says where each answer's end there, the first entry being 0.
 pub fn read_line(line: &[u8], kept: &[u8], ends: &[usize]) -> Line
     ensures { λ q. ⌜ q ≡ readLine (now (line .entry)) (now (kept .entry)) (now (ends .entry)) ⌝ }
 {

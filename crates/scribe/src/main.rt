@@ -1,17 +1,14 @@
 // The scribe: lines of words on standard input, and the stream's bytes on standard output.
-use clerk::bytes::put_spoken;
-use clerk::heard::hear;
 use clerk::wrong::put_wrong;
 use counter::input::is_last;
 use counter::input::next_line;
-use counter::kept::ends_of;
 use counter::kept::room;
+use counter::line::serve_line;
 use counter::service::Desk;
-use counter::service::carry_out;
 use io::write_all;
 use printout::page::first_of;
-use state::places::fresh_facility;
 use reader::Line;
+use state::places::fresh_facility;
 
 fn complain(number: usize, said: Line, paper: &mut [u8]) {
     let expected = said.expected;
@@ -19,23 +16,17 @@ fn complain(number: usize, said: Line, paper: &mut [u8]) {
     write_all(libc::STDERR_FILENO, first_of(&paper[..], told));
 }
 
-// The line's bytes written, and carried out, so that `$n` means what it means at the desk.
-fn write_down(desk: Desk, said: Line, line: &[u8], table: &mut [u8], out: &mut [u8], kept: &mut [u8], ends: &mut [usize], piece: &mut [u8], paper: &mut [u8]) -> Desk {
-    let spoken = put_spoken(&mut piece[..], said, line, &kept[..]);
-    write_all(libc::STDOUT_FILENO, first_of(&piece[..], spoken));
-    carry_out(desk, false, first_of(&piece[..], spoken), &mut table[..], &mut out[..], &mut kept[..], &mut ends[..], &mut paper[..])
-}
-
-// The lines one after the other, up to the first bad one.
+// The lines one after the other, up to the first bad one: the bytes of each written, and carried out, so that `$n` means what it means at the desk.
 fn write_lines(line: &mut [u8], table: &mut [u8], out: &mut [u8], kept: &mut [u8], ends: &mut [usize], piece: &mut [u8], paper: &mut [u8]) {
     let mut desk = Desk { state: fresh_facility(), answers: 0, used: 0 };
     let mut number: usize = 0;
     while number < usize::MAX {
         number += 1;
         let got = next_line(&mut line[..]);
-        let said = hear(first_of(&line[..], got.letters), got.longer, &kept[..], ends_of(&ends[..], desk.answers));
+        let served = serve_line(desk, false, first_of(&line[..], got.letters), got.longer, &mut table[..], &mut out[..], &mut kept[..], &mut ends[..], &mut piece[..], &mut paper[..]);
+        let said = served.said;
         if said.fits {
-            desk = write_down(desk, said, first_of(&line[..], got.letters), &mut table[..], &mut out[..], &mut kept[..], &mut ends[..], &mut piece[..], &mut paper[..]);
+            write_all(libc::STDOUT_FILENO, first_of(&piece[..], served.spoken));
         } else {
             complain(number, said, &mut paper[..]);
             return;
@@ -43,6 +34,7 @@ fn write_lines(line: &mut [u8], table: &mut [u8], out: &mut [u8], kept: &mut [u8
         if is_last(got, said) {
             return;
         }
+        desk = served.desk;
     }
 }
 

@@ -1,4 +1,4 @@
-// `$n`: the bytes of answer n. `kept` has the bytes of the answers so far, and `ends` where each answer's end among them, the first entry being 0.
+// `$n`: the bytes of answer n. `kept` is the room for the answers' bytes, filled from its start, and `ends` says where each answer's end there, the first entry being 0.
 ghost use mathlib.Core.Path.{_≡_};
 ghost use lib.ListN.{length};
 ghost use Rattle.values.specs.Sources.{answerSource};

@@ -44,12 +44,13 @@ pub enum Fault {
     RefusedNotCounted,
     QuitDoesNotEnd,
     NoPromptAtTerminal,
+    PromptBeforePipe,
     AnswersAtTheEnd,
 }
 
 use Fault::*;
 
-pub const ALL: [Fault; 41] = [
+pub const ALL: [Fault; 42] = [
     IssuerAndPartyExchanged,
     HexDigitsExchanged,
     NeighboursTag,
@@ -90,6 +91,7 @@ pub const ALL: [Fault; 41] = [
     RefusedNotCounted,
     QuitDoesNotEnd,
     NoPromptAtTerminal,
+    PromptBeforePipe,
     AnswersAtTheEnd,
 ];
 

@@ -18,13 +18,11 @@ pub fn lessons(desk: Program, directory: &Path, writes: bool) -> Result<bool> {
     let mut faults = Vec::new();
     for path in &lessons {
         let lesson = Lesson::read(&desk, path, writes)?;
-        let mut found = lesson.faults();
-        if SHOWN_WHOLE.iter().any(|name| path.ends_with(name)) {
-            found.extend(lesson.left_out(&blocks(&lesson.page)));
-        }
-        faults.extend(found.into_iter().map(|fault| format!("{}: {fault}", path.display())));
+        let shown_whole = SHOWN_WHOLE.iter().any(|name| path.ends_with(name));
+        let found = lesson.faults().into_iter().chain(lesson.page_fault(&blocks(&lesson.page), shown_whole));
+        faults.extend(found.map(|fault| format!("{}: {fault}", path.display())));
     }
-    faults.extend(readme_faults(&desk, directory)?);
+    faults.extend(readme_fault(&desk, directory)?);
     faults.extend(index_faults(directory, &lessons)?);
     faults.iter().for_each(|fault| println!("{fault}"));
     println!("lessons: {} lessons, {} faults", lessons.len(), faults.len());
@@ -66,21 +64,16 @@ impl Lesson {
         if commands > MOST_COMMANDS {
             faults.push(format!("{commands} commands, more than {MOST_COMMANDS}"));
         }
-        let blocks = blocks(&self.page);
-        if blocks.is_empty() {
-            faults.push("the page shows nothing of the run".to_string());
-        }
-        faults.extend(blocks.iter().flat_map(|block| self.block_faults(block)));
         faults
     }
 
-    /// Each line of the script with its answer in the transcript; the model says how many lines that has.
+    /// Each line of the script, but for its comments, with its answer in the transcript; the model says how many lines that has.
     fn answers(&self) -> Vec<(&str, Vec<&str>)> {
         let mut desk = Desk::fresh();
         let mut rest = self.transcript.lines();
         let answer =
             |line| (line, rest.by_ref().take(desk.take(str::as_bytes(line)).1.lines().count()).collect());
-        self.script.lines().map(answer).collect()
+        self.script.lines().filter(|line| !line.is_empty() && !line.starts_with('#')).map(answer).collect()
     }
 
     /// Lines that are commands or raw bytes, well said or not.
@@ -91,35 +84,21 @@ impl Lesson {
         self.script.lines().filter(|line| is_command(line)).count()
     }
 
-    /// What is typed in these blocks has to be the script, line by line, but for its comments.
-    fn left_out(&self, blocks: &[Vec<&str>]) -> Option<String> {
-        let mut typed = blocks.iter().flatten().filter_map(|line| line.strip_prefix("> "));
-        let mut script = self.script.lines().filter(|line| !line.is_empty() && !line.starts_with('#'));
-        loop {
-            match (typed.next(), script.next()) {
-                (None, None) => return None,
-                (one, other) if one == other => {}
-                (one, other) => return Some(format!("the page has typed {one:?}, and the script {other:?}")),
+    /// From the end backwards: what is typed in these blocks has to be the script, line by line, as far as they go, or wholly; below a line
+    /// stands its whole answer, or nothing.
+    fn page_fault(&self, blocks: &[Vec<&str>], wholly: bool) -> Option<String> {
+        if blocks.is_empty() {
+            return Some("the page shows nothing of the run".to_string());
+        }
+        let mut run = self.answers().into_iter().rev();
+        for part in blocks.iter().flat_map(|block| parts(block)).rev() {
+            match (part[0].strip_prefix("> "), run.next()) {
+                (Some(typed), Some((line, answer)))
+                    if typed == line && (part.len() == 1 || answer == part[1..]) => {}
+                (_, other) => return Some(format!("the page shows {part:?}, and the run has {other:?}")),
             }
         }
-    }
-
-    /// After `> ` stands a line of the script, and below it, if anything, its whole answer; other lines are of the transcript.
-    fn block_faults(&self, block: &[&str]) -> Vec<String> {
-        let answers = self.answers();
-        let mut faults = Vec::new();
-        for part in parts(block) {
-            let stands = match part[0].strip_prefix("> ") {
-                Some(typed) => answers
-                    .iter()
-                    .any(|(line, answer)| *line == typed && (part.len() == 1 || *answer == part[1..])),
-                None => part.iter().all(|line| self.transcript.lines().any(|other| other == *line)),
-            };
-            if !stands {
-                faults.push(format!("the page shows what the run has not: {}", part.join(" / ")));
-            }
-        }
-        faults
+        run.next().filter(|_| wholly).map(|(line, _)| format!("the page leaves out {line:?}"))
     }
 }
 
@@ -159,16 +138,12 @@ fn other_line(transcript: &str, printed: &str) -> String {
 }
 
 /// The README beside the directory: its blocks that begin with a typed line are of the lesson `readme`.
-fn readme_faults(desk: &Program, directory: &Path) -> Result<Vec<String>> {
+fn readme_fault(desk: &Program, directory: &Path) -> Result<Option<String>> {
     let lesson = Lesson::read(desk, &directory.join("readme"), false)?;
     let readme = fs::read_to_string(directory.join("../README.md"))?;
     let mut shown = blocks(&readme);
     shown.retain(|block| block[0].starts_with("> "));
-    if shown.is_empty() {
-        return Ok(vec!["README.md shows nothing of lessons/readme".to_string()]);
-    }
-    let faults = shown.iter().flat_map(|block| lesson.block_faults(block)).chain(lesson.left_out(&shown));
-    Ok(faults.map(|fault| format!("README.md: {fault}")).collect())
+    Ok(lesson.page_fault(&shown, true).map(|fault| format!("README.md: {fault}")))
 }
 
 /// The index has to name every lesson.

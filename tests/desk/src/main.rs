@@ -35,7 +35,7 @@ desk lines DESK SCRIBE [--lines N] [--seed S]  random and changed lines beside t
     also --every N (one in N bad lines at the scribe; 3), --first (the first difference ends it)
 desk round SCRIBE NOTARY DESK [--commands N]   commands through words, bytes and back; desk beside NOTARY
 desk lessons DESK DIR [--write]                each lesson's script beside its transcript and page
-desk terminal DESK                             at a pseudo-terminal, and line by line through a pipe
+desk terminal DESK                             at a pseudo-terminal, from there into a pipe, and line by line through a pipe
 desk faults                                    faults put into the model, each told by one of the tests above
 a program is a path, or words with spaces between them: the program and its arguments";
 

@@ -43,12 +43,12 @@ pub fn desk() -> Result<bool> {
 }
 
 fn converse(held_back: &mut Vec<u8>) -> Result<()> {
-    let asks =
-        stdin().is_terminal() && !fault::on(Fault::NoPromptAtTerminal) || fault::on(Fault::PromptInPipe);
+    let at_terminal = stdin().is_terminal() && (stdout().is_terminal() || fault::on(Fault::PromptBeforePipe));
+    let asks = at_terminal && !fault::on(Fault::NoPromptAtTerminal) || fault::on(Fault::PromptInPipe);
     let mut input = stdin().lock();
     let mut desk = Desk::fresh();
     if asks {
-        write_out(b"The desk of the key notarization facility. help lists the commands.\n")?;
+        write_out(b"The desk of the key notarization facility. help lists the commands, quit leaves.\n")?;
     }
     loop {
         if asks {

@@ -56,13 +56,13 @@ fn open() -> Result<(File, File)> {
 }
 
 impl Terminal {
-    /// Starts the program; what it shows on the screen comes in pieces.
-    pub fn start(program: &Program) -> Result<(Terminal, Receiver<Vec<u8>>)> {
+    /// Starts the program; what it shows on the screen, or says into a pipe instead, comes in pieces.
+    pub fn start(program: &Program, into_pipe: bool) -> Result<(Terminal, Receiver<Vec<u8>>)> {
         let (ours, theirs) = open()?;
         let number = theirs.as_raw_fd();
         let mut command = program.command();
         command.stdin(Stdio::from(theirs.try_clone()?));
-        command.stdout(Stdio::from(theirs.try_clone()?));
+        command.stdout(if into_pipe { Stdio::piped() } else { Stdio::from(theirs.try_clone()?) });
         command.stderr(Stdio::from(theirs.try_clone()?));
         // SAFETY: between fork and exec only these two calls are made.
         unsafe {
@@ -71,9 +71,12 @@ impl Terminal {
                 checked(ioctl(number, SET_CONTROLLING_TERMINAL, 0)).map(drop)
             });
         }
-        let child = command.spawn()?;
-        let screen = pieces(ours.try_clone()?);
-        Ok((Terminal { child, keyboard: ours }, screen))
+        let mut child = command.spawn()?;
+        let said = match child.stdout.take() {
+            Some(pipe) => pieces(pipe),
+            None => pieces(ours.try_clone()?),
+        };
+        Ok((Terminal { child, keyboard: ours }, said))
     }
 
     pub fn type_in(&mut self, letters: &[u8]) -> Result<()> {

@@ -14,6 +14,8 @@ const PATIENCE: Duration = Duration::from_secs(10);
 const QUIET: Duration = Duration::from_millis(60);
 
 const PROMPT: &str = "> ";
+const GREETING: &str =
+    "The desk of the key notarization facility. help lists the commands, quit leaves.\r\n> ";
 const END_OF_INPUT: &[u8] = b"\x04";
 
 /// What a person types: a mistake, its correction, `$n`, who and help among it.
@@ -97,9 +99,10 @@ type Checked<T = ()> = std::result::Result<T, String>;
 
 pub fn terminal(desk: Program) -> Result<bool> {
     let help = String::from_utf8_lossy(&desk.run(b"help\n")?.stdout).to_string();
-    let parts: [(&str, Checked); 4] = [
+    let parts: [(&str, Checked); 5] = [
         ("at a terminal, to ctrl-D", at_terminal(&desk, &help)),
         ("at a terminal, to quit", quits(&desk)),
+        ("at a terminal, but into a pipe", into_pipe(&desk, &help)),
         ("through a pipe, line by line", through_pipe(&desk, &help)),
         ("through a pipe, the last line without line feed", last_line(&desk)),
     ];
@@ -128,15 +131,15 @@ fn told<T>(result: Result<T>) -> Checked<T> {
     result.map_err(|error| error.to_string())
 }
 
-/// The desk at a new terminal, its greeting read: something, a line's end, and the first prompt.
+/// The desk at a new terminal, its greeting and the first prompt read.
 fn greeted(desk: &Program) -> Checked<(Terminal, Heard)> {
-    let (terminal, source) = told(Terminal::start(desk))?;
+    let (terminal, source) = told(Terminal::start(desk, false))?;
     let mut heard = Heard { source, text: Vec::new() };
     let greeting = heard.until(|text| text.ends_with(PROMPT))?;
-    if greeting.len() > PROMPT.len() && greeting.ends_with("\n> ") {
+    if greeting == GREETING {
         Ok((terminal, heard))
     } else {
-        Err(format!("no greeting: {greeting:?}"))
+        Err(format!("the greeting is {greeting:?}"))
     }
 }
 
@@ -199,23 +202,41 @@ fn piped(desk: &Program) -> Checked<(Child, Heard)> {
 }
 
 /// Each answer, whole and with nothing after it, comes before the next line goes.
-fn through_pipe(desk: &Program, help: &str) -> Checked {
-    let (mut child, mut heard) = piped(desk)?;
-    let mut input = child.stdin.take().ok_or("no pipe")?;
+fn only_answers(heard: &mut Heard, help: &str, mut type_in: impl FnMut(&[u8]) -> Result<()>) -> Checked {
     for (line, answer) in TYPED.iter().zip(answers(help)) {
-        told(input.write_all(format!("{line}\n").as_bytes()))?;
+        told(type_in(format!("{line}\n").as_bytes()))?;
         let said = heard.until(|text| text.len() >= answer.len())?;
         if said != answer || !heard.is_quiet() {
             let more = String::from_utf8_lossy(&heard.text).to_string();
             return Err(format!("to {line:?} came {said:?} and {more:?}, not {answer:?}"));
         }
     }
-    drop(input);
+    Ok(())
+}
+
+fn ends_silently(child: &mut Child, heard: &mut Heard) -> Checked {
     let rest = heard.until_end()?;
     if !rest.is_empty() {
         return Err(format!("at the end came {rest:?}"));
     }
-    ends(&mut child)
+    ends(child)
+}
+
+/// As in `desk | tee`: neither greeting nor prompt, and no line's end where the input ends.
+fn into_pipe(desk: &Program, help: &str) -> Checked {
+    let (mut terminal, source) = told(Terminal::start(desk, true))?;
+    let mut heard = Heard { source, text: Vec::new() };
+    only_answers(&mut heard, help, |line| terminal.type_in(line))?;
+    told(terminal.type_in(END_OF_INPUT))?;
+    ends_silently(&mut terminal.child, &mut heard)
+}
+
+fn through_pipe(desk: &Program, help: &str) -> Checked {
+    let (mut child, mut heard) = piped(desk)?;
+    let mut input = child.stdin.take().ok_or("no pipe")?;
+    only_answers(&mut heard, help, |line| input.write_all(line))?;
+    drop(input);
+    ends_silently(&mut child, &mut heard)
 }
 
 fn last_line(desk: &Program) -> Checked {
