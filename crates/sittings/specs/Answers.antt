@@ -1,6 +1,6 @@
 -- "The desk keeps the bytes of its answers for `$n`: of the first 4096 answers, while they find room in 1048576 bytes."
 use mathlib.Core.Path.{_≡_, refl}
-use mathlib.Core.Bool.{cond}
+use mathlib.Core.Bool.{Bool, cond}
 use mathlib.Core.List.{List, [], _∷_, _++_}
 use Prim.Native.Nat.{ℕ, suc, _+_, _≤_, _<_}
 use lib.Dec.{leb}
@@ -12,9 +12,12 @@ use Rattle.counter.specs.Kept.{Books, books}
 abbrev pub bytesOf : Answered → List ℕ
 bytesOf a = shownOf (a .told .answer) (a .told .block) (a .told .output)
 
+abbrev pub findRoom : (room : ℕ) → (kept bytes : List ℕ) → Bool
+findRoom room kept bytes = leb (length kept + length bytes) room
+
 -- an answer's bytes behind those kept, if they find room there
 unfoldable pub oneKept : (room : ℕ) → (kept bytes : List ℕ) → List ℕ
-oneKept room kept bytes = cond (leb (length kept + length bytes) room) (kept ++ bytes) kept
+oneKept room kept bytes = cond (findRoom room kept bytes) (kept ++ bytes) kept
 
 unfoldable pub allKept : (room : ℕ) → List ℕ → List Answered → List ℕ
 allKept room kept [] = kept
@@ -40,6 +43,6 @@ pub record Fresh (first room : ℕ) (b : Books) : Type 0 where
   pub marks : length (b .ends) ≡ suc first
   pub start : getD (b .ends) 0 0 ≡ 0
 
--- so are those with which the desk begins
+-- such are those with which the desk begins
 pub fresh-books : (first room : ℕ) → Fresh first room (books 0 (page (replicate room 0) 0) (replicate (suc first) 0))
 fresh-books first room = record { none = refl; empty = refl; size = length-replicate room 0; marks = length-replicate (suc first) 0; start = refl }

@@ -1,24 +1,23 @@
 -- What the desk's books hold after any answers: `$n` is answer n.
-use mathlib.Core.Path.{_≡_, refl, sym, ap, ap₂, _∙_, subst}
-use mathlib.Core.Bool.{Bool, true, false, cond}
+use mathlib.Core.Path.{_≡_, refl, sym, ap, _∙_, subst}
+use mathlib.Core.Bool.{Bool, cond}
 use mathlib.Core.Logic.{_↔_}
 use mathlib.Core.List.{List, [], _∷_, _++_, append-nil, append-assoc}
 use Prim.Native.Nat.{ℕ, zero, suc, _+_, _-_, _≤_, _<_}
-use native.Mathlib.Nat.{add-zero}
 use native.Mathlib.Numerals.{add-one}
 use native.Mathlib.Omega.{arith}
 use lib.Dec.{ltb, leb}
-use lib.ListN.{length, getD, take, drop, set, length-append, length-set, take-append-drop}
-use lib.Seq.{sets, length-sets, take-all, take-at, drop-at, take-append-le, length-take-le, getD-take, getD-set-same, getD-set-other}
+use lib.ListN.{length, getD, take, drop, length-append, length-set, take-append-drop}
+use lib.Seq.{length-sets, take-all, take-at, drop-at, take-append-le, length-take-le, getD-take, getD-set-same, getD-set-other}
 use borrow.Author.Tests.{lt-ltb, le-leb, lt-leb, leb-true, leb-false}
 use Rattle.ground.specs.Search.{byTest}
-use Rattle.ground.specs.Lists.{take-sets, none}
-use Rattle.printout.specs.Page.{Page, page, entered}
+use Rattle.ground.specs.Lists.{take-sets}
+use Rattle.printout.specs.Page.{Page}
 use Rattle.session.specs.Run.{Answered}
 use Rattle.counter.specs.Kept.{Books, next, keptBytes, endMarked, booked, allBooked}
 use Rattle.grammar.specs.Means.{OfAnswer}
 use Rattle.sittings.specs.Pages.{placed}
-use Rattle.sittings.specs.Answers.{bytesOf, oneKept, allKept, Keeps, Fresh}
+use Rattle.sittings.specs.Answers.{bytesOf, findRoom, oneKept, allKept, Keeps, Fresh}
 
 -- the answer that so many come before
 among : (answers : List Answered) (i : ℕ) → i < length answers → (before : List Answered) × (a : Answered) × (beyond : List Answered) × (answers ≡ before ++ (a ∷ beyond)) × (i ≡ length before)
@@ -40,7 +39,7 @@ kept-stays : (room : ℕ) (kept : List ℕ) (xs : List Answered) → (more : Lis
 unfolding allKept oneKept
 kept-stays room kept [] = ([], sym (append-nil kept))
 kept-stays room kept (a ∷ xs) =
-    byTest (leb (length kept + length (bytesOf a)) room)
+    byTest (findRoom room kept (bytesOf a))
     (λ e.
     let r = kept-stays room (kept ++ bytesOf a) xs in
     (bytesOf a ++ r .0, ap (λ (t : Bool). allKept room (cond t (kept ++ bytesOf a) kept) xs) e ∙ r .1 ∙ append-assoc kept (bytesOf a) (r .0)))
@@ -57,7 +56,7 @@ record Holds (room : ℕ) (kept : List ℕ) (p : Page) : Type 0 where
 holds-one : (room : ℕ) (kept : List ℕ) (p : Page) (xs : List ℕ) → Holds room kept p → Holds room (oneKept room kept xs) (keptBytes xs p)
 unfolding oneKept keptBytes
 holds-one room kept p xs h =
-    byTest (leb (length kept + length xs) room)
+    byTest (findRoom room kept xs)
     (λ e.
     let fits : p .filled + length xs ≤ length (p .letters) = omega (arith, leb-true (length kept + length xs) room e, h .size, h .filled) in
     rw (e, le-leb (p .filled + length xs) (length (p .letters)) fits, placed xs (p .letters) (p .filled) fits)
@@ -299,7 +298,7 @@ module _ (first room : ℕ) (counted : first < 0xFFFFFFFFFFFFFFFF) where
             o .from ∙ getD-take (b .count + 1) (b .ends) (n - 1) 0 (omega (arith, g .1)) ∙ ap (λ (j : ℕ). getD (b .ends) j 0) (x .4) ∙ mark-before before a (x .2) b there (omega (arith, ordinal, early)) in
         let to : length (o .before) + length bytes ≡ length (oneKept room kept (bytesOf a)) =
             o .to ∙ getD-take (b .count + 1) (b .ends) n 0 (omega (arith, g .1)) ∙ ap (λ (j : ℕ). getD (b .ends) j 0) ordinal ∙ mark-after before a (x .2) b there (omega (arith, ordinal, early)) in
-        byTest (leb (length kept + length (bytesOf a)) room)
+        byTest (findRoom room kept (bytesOf a))
         (λ t.
         let fits = leb-true (length kept + length (bytesOf a)) room t in
         let s = stand before a (x .2) b there fits in

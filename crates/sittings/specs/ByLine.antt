@@ -1,11 +1,10 @@
--- Lines of commands: each one's bytes are one whole command of the stream, so that NOTARY answers the bytes of all of them as the desk answered line after line.
+-- A command's line is one whole command of the stream; so NOTARY answers the bytes of all lines at once as the desk answers line after line, where raw bytes are whole too.
 use mathlib.Core.Path.{_≡_, refl, sym, ap, ap₂, _∙_}
 use mathlib.Core.Bool.{Bool, true, false, cond}
-use mathlib.Core.Logic.{_⊎_, inl, inr}
-use mathlib.Core.List.{List, [], _∷_, _++_, append-nil}
-use Prim.Native.Nat.{ℕ, _+_, _<_}
+use mathlib.Core.List.{List, [], _∷_, _++_, append-nil, append-assoc}
+use Prim.Native.Nat.{ℕ, _+_}
 use native.Mathlib.Omega.{arith}
-use lib.ListN.{length, take}
+use lib.ListN.{take}
 use lib.Seq.{take-all}
 use Rattle.ground.specs.Search.{byTest}
 use Rattle.names.specs.declared.Says.{Says}
@@ -71,13 +70,16 @@ written [] w out b = []
 written (l ∷ ls) w out b =
     said b l ++ written ls (ranFrom (said b l) w out 0 .world) (ranFrom (said b l) w out 0 .output) (allBooked (ranFrom (said b l) w out 0 .answers) b)
 
--- none of them says raw bytes, which may be cut
-abbrev pub NoRaw : List (List ℕ) → Type 0
-NoRaw [] = Unit {0}
-NoRaw (l ∷ ls) = ((d : Bytes) → RawBytes l d → ⊥) × NoRaw ls
+-- raw bytes, if the line says any, are whole commands
+abbrev pub WholeLine : List ℕ → Type 0
+WholeLine l = (d : Bytes) → RawBytes l d → (cs : List Sent) × Short cs × (d ≡ sent cs)
 
--- so each has the bytes of one command, or none
-module _ (b : Books) (l : List ℕ) (no-raw : (d : Bytes) → RawBytes l d → ⊥) where
+abbrev pub Whole : List (List ℕ) → Type 0
+Whole [] = Unit {0}
+Whole (l ∷ ls) = WholeLine l × Whole ls
+
+-- then a line's bytes are whole commands, whatever it says
+module _ (b : Books) (l : List ℕ) (whole : WholeLine l) where
   abbrev kept : List ℕ
   kept = b .bytes .letters
 
@@ -87,56 +89,56 @@ module _ (b : Books) (l : List ℕ) (no-raw : (d : Bytes) → RawBytes l d → �
   abbrev read : Line
   read = readLine l kept ends
 
-  abbrev OneOrNone : Type 0
-  OneOrNone = (said b l ≡ []) ⊎ ((c : Sent) × (length (c .value) < 65536) × (said b l ≡ sent (c ∷ [])))
+  abbrev Commanded : Type 0
+  Commanded = (cs : List Sent) × Short cs × (said b l ≡ sent cs)
 
-  by-says : (s : Says) → read .fits ≡ true → read .says ≡ s → Reads kept ends l s (read .asked) (meant (read .bytes) l kept) → OneOrNone
-  unfolding said heard
-  by-says Nothing f e h = inl (spoken-as read l kept Nothing f e)
+  by-says : (s : Says) → read .fits ≡ true → read .says ≡ s → Reads kept ends l s (read .asked) (meant (read .bytes) l kept) → Commanded
+  unfolding said heard sent
+  by-says Nothing f e h = ([], tt, spoken-as read l kept Nothing f e)
   by-says Command f e h =
       let a = read .asked in
       let d = meant (read .bytes) l kept in
-      inr (tagged (a .tag) (spelled (h .arguments) a d), line-short kept ends l a d h, command-spoken kept ends l a d h)
-  by-says Raw f e h = absurd (no-raw (meant (read .bytes) l kept) (h .0))
-  by-says Help f e h = inl (spoken-as read l kept Help f e)
-  by-says Who f e h = inl (spoken-as read l kept Who f e)
-  by-says Quit f e h = inl (spoken-as read l kept Quit f e)
+      (tagged (a .tag) (spelled (h .arguments) a d) ∷ [], (line-short kept ends l a d h, tt), command-spoken kept ends l a d h)
+  by-says Raw f e h = let w = whole (meant (read .bytes) l kept) (h .0) in (w .0, w .1, spoken-as read l kept Raw f e ∙ w .2)
+  by-says Help f e h = ([], tt, spoken-as read l kept Help f e)
+  by-says Who f e h = ([], tt, spoken-as read l kept Who f e)
+  by-says Quit f e h = ([], tt, spoken-as read l kept Quit f e)
 
-  one-or-none : OneOrNone
-  unfolding said heard
-  one-or-none = byTest (read .fits) (λ f. by-says (read .says) f refl (fits-reads l kept ends f)) (λ f. inl (unspoken read l kept f))
+  commanded : Commanded
+  unfolding said heard sent
+  commanded = byTest (read .fits) (λ f. by-says (read .says) f refl (fits-reads l kept ends f)) (λ f. ([], tt, unspoken read l kept f))
 
-  -- in front of other commands
-  abbrev Front : Type 0
-  Front = (cs : List Sent) × Short cs × (said b l ≡ sent cs) × ((ds : List Sent) → Short ds → (es : List Sent) × Short es × (sent cs ++ sent ds ≡ sent es))
+-- commands behind commands
+together : (cs ds : List Sent) → Short cs → Short ds → (es : List Sent) × Short es × (sent cs ++ sent ds ≡ sent es)
+unfolding sent
+together [] ds h k = (ds, k, refl)
+together (c ∷ cs) ds h k =
+    let v = field (c .tag) (c .value) in
+    let r = together cs ds (h .1) k in
+    (c ∷ r .0, (h .0, r .1), append-assoc v (sent cs) (sent ds) ∙ ap (λ (x : Bytes). v ++ x) (r .2))
 
-  front : OneOrNone → Front
-  unfolding sent
-  front (inl e) = ([], tt, e, λ ds h. (ds, h, refl))
-  front (inr x) = (x .0 ∷ [], (x .1, tt), x .2, λ ds h. (x .0 ∷ ds, (x .1, h), ap (λ (v : Bytes). v ++ sent ds) (append-nil (field (x .0 .tag) (x .0 .value)))))
-
--- the lines' bytes are commands
-sends : (ls : List (List ℕ)) → NoRaw ls → (w : World) (out : Bytes) (b : Books) → (cs : List Sent) × Short cs × (written ls w out b ≡ sent cs)
+-- the bytes of all lines are commands
+sends : (ls : List (List ℕ)) → Whole ls → (w : World) (out : Bytes) (b : Books) → (cs : List Sent) × Short cs × (written ls w out b ≡ sent cs)
 unfolding written sent
 sends [] h w out b = ([], tt, refl)
 sends (l ∷ ls) h w out b =
     let r = ranFrom (said b l) w out 0 in
-    let f = front b l (h .0) (one-or-none b l (h .0)) in
+    let one = commanded b l (h .0) in
     let rest = sends ls (h .1) (r .world) (r .output) (allBooked (r .answers) b) in
-    let all = f .3 (rest .0) (rest .1) in
-    (all .0, all .1, ap₂ (λ (x y : Bytes). x ++ y) (f .2) (rest .2) ∙ all .2)
+    let all = together (one .0) (rest .0) (one .1) (rest .1) in
+    (all .0, all .1, ap₂ (λ (x y : Bytes). x ++ y) (one .2) (rest .2) ∙ all .2)
 
 -- given to NOTARY at once, they are answered as line after line
-pub at-once : (ls : List (List ℕ)) → NoRaw ls → (w : World) (out : Bytes) (b : Books) → ranFrom (written ls w out b) w out 0 ≡ lineByLine ls w out b
+pub at-once : (ls : List (List ℕ)) → Whole ls → (w : World) (out : Bytes) (b : Books) → ranFrom (written ls w out b) w out 0 ≡ lineByLine ls w out b
 unfolding written lineByLine next
 at-once [] h w out b = over [] w out 0 (omega arith)
 at-once (l ∷ ls) h w out b =
     let r = ranFrom (said b l) w out 0 in
     let later = written ls (r .world) (r .output) (allBooked (r .answers) b) in
-    let f = front b l (h .0) (one-or-none b l (h .0)) in
+    let one = commanded b l (h .0) in
     let rest = sends ls (h .1) (r .world) (r .output) (allBooked (r .answers) b) in
     let parts : ranFrom (said b l ++ later) w out 0 ≡ next r (λ w′ out′. ranFrom later w′ out′ 0) =
-        ap₂ (λ (x y : Bytes). ranFrom (x ++ y) w out 0) (f .2) (rest .2)
-        ∙ in-parts (f .0) (rest .0) (f .1) (rest .1) w out
-        ∙ ap₂ (λ (x y : Bytes). next (ranFrom x w out 0) (λ w′ out′. ranFrom y w′ out′ 0)) (sym (f .2)) (sym (rest .2)) in
+        ap₂ (λ (x y : Bytes). ranFrom (x ++ y) w out 0) (one .2) (rest .2)
+        ∙ in-parts (one .0) (rest .0) (one .1) (rest .1) w out
+        ∙ ap₂ (λ (x y : Bytes). next (ranFrom x w out 0) (λ w′ out′. ranFrom y w′ out′ 0)) (sym (one .2)) (sym (rest .2)) in
     parts ∙ ap (λ (x : Ran). ran (x .world) (x .output) (r .answers ++ x .answers)) (at-once ls (h .1) (r .world) (r .output) (allBooked (r .answers) b))

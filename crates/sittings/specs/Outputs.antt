@@ -1,5 +1,5 @@
 -- An answer shows at most the eight bytes of a reply, or as many as the output has; and the output stays as long as it is.
-use mathlib.Core.Path.{_≡_, refl, sym, ap, subst}
+use mathlib.Core.Path.{_≡_, refl, sym, subst}
 use mathlib.Core.Bool.{Bool, cond}
 use mathlib.Core.Option.{Option, none, some}
 use mathlib.Core.List.{[], _∷_}

@@ -11,7 +11,7 @@ use lib.ListN.{length, take, set, length-set}
 use lib.Seq.{sets}
 use borrow.Author.Tests.{lt-ltb}
 use Rattle.ground.specs.Lists.{take-sets}
-use Rattle.printout.specs.Page.{Page, page, letter, entered}
+use Rattle.printout.specs.Page.{page, letter, entered}
 
 pub placed : (xs b : List ℕ) (n : ℕ) → n + length xs ≤ length b → entered xs (page b n) ≡ page (sets b n xs) (n + length xs)
 unfolding entered letter

@@ -1,5 +1,5 @@
 -- Nothing is left out: what the desk writes finds room on its paper of 70000 letters, and a line's bytes in its piece of 65538.
-use mathlib.Core.Path.{_≡_, refl, sym, ap, _∙_, subst}
+use mathlib.Core.Path.{_≡_, refl, ap, _∙_}
 use mathlib.Core.Bool.{Bool, true, false, cond}
 use mathlib.Core.List.{List, [], _∷_, _++_}
 use Prim.Native.Nat.{ℕ, zero, suc, _+_, _*_, _≤_}
@@ -17,7 +17,7 @@ use Rattle.stream.specs.FieldLaws.{field-length}
 use Rattle.stream.specs.Grammar.{spelled}
 use Rattle.printout.specs.Page.{page, entered}
 use Rattle.printout.specs.Text.{letters}
-use Rattle.printout.specs.Digits.{hexByte, hex, decimal}
+use Rattle.printout.specs.Digits.{hexByte, decimal}
 use Rattle.printout.specs.Lines.{shown, line}
 use Rattle.printout.specs.Rows.{Row, beside}
 use Rattle.words.specs.declared.Expected.{Expected}
@@ -117,7 +117,15 @@ unfolding wrongText
 wrong-room number place e =
     let end = expectedText e ++ (code "\n" ∷ []) in
     let from = decimal (column place) ++ (letters ": expected " ++ end) in
-    omega (arith, twenty number, twenty (column place), expected-length e, length-append (expectedText e) (code "\n" ∷ []), length-append (decimal (column place)) (letters ": expected " ++ end), length-append (decimal number) (letters ", column " ++ from))
+    omega (
+      arith,
+      twenty number,
+      twenty (column place),
+      expected-length e,
+      length-append (expectedText e) (code "\n" ∷ []),
+      length-append (decimal (column place)) (letters ": expected " ++ end),
+      length-append (decimal number) (letters ", column " ++ from),
+    )
 
 help-length : length help ≤ 70000
 unfolding help
