@@ -24,7 +24,7 @@ bytesFor Help said l kept = []
 bytesFor Who said l kept = []
 bytesFor Quit said l kept = []
 
--- `l` is the line, and `kept` the bytes of the answers so far
+-- `l` is the line, and `kept` the room for the bytes of the answers, which fill it from its start
 unfoldable pub spoken : Line → List ℕ → List ℕ → List ℕ
 spoken said l kept = cond (said .fits) (bytesFor (said .says) said l kept) []
 

@@ -1,4 +1,4 @@
-// One line, or one answer: what a line says, its bytes in the stream, what the desk says to it, and an answer's parts and words. Nothing here lasts from line to line.
+// One line or one answer at a time: what a line says, its bytes in the stream, what the desk itself says of it, and an answer's parts and words. Nothing is kept here.
 pub mod answers;
 pub mod bytes;
 pub mod heard;

@@ -4,7 +4,7 @@ use mathlib.Core.Bool.{Bool}
 use mathlib.Core.List.{List}
 use Prim.Native.Nat.{ℕ, _+_}
 use lib.ListN.{length, take}
-use Rattle.printout.specs.Page.{Page, page, entered}
+use Rattle.printout.specs.Page.{page, entered}
 use Rattle.state.specs.State.{Bytes}
 use Rattle.rules.specs.Commands.{World}
 use Rattle.reader.specs.declared.Line.{Line}
@@ -22,7 +22,7 @@ pub record Served : Type 0 where
 abbrev pub served : Line → Bytes → Carried → Served
 served said bytes leaves = record { said = said; bytes = bytes; leaves = leaves }
 
--- `$n` means the answers so far, and no others
+-- `$n` means the answers so far: their bytes fill the room from its start, and the ends are theirs alone
 abbrev pub heardWith : Bool → List ℕ → Books → Line
 heardWith longer l b = heard longer l (b .bytes .letters) (take (b .count + 1) (b .ends))
 

@@ -45,10 +45,14 @@ one-longer n room =
 no-feed : (l : List ℕ) (x : ℕ) → noFeed l ≡ true → eqb x (code "\n") ≡ false → noFeed (l ++ (x ∷ [])) ≡ true
 unfolding noFeed
 no-feed [] x h e = ap (λ (t : Bool). cond t false true) e
-no-feed (y ∷ l) x h e = byTest (eqb y (code "\n")) (λ t. ap (kept (noFeed (l ++ (x ∷ [])))) t ∙ sym (ap (kept (noFeed l)) t) ∙ h) (λ t. ap (kept (noFeed (l ++ (x ∷ [])))) t ∙ no-feed l x (sym (ap (kept (noFeed l)) t) ∙ h) e)
+no-feed (y ∷ l) x h e =
+    byTest (eqb y (code "\n"))
+    (λ t. ap (before (l ++ (x ∷ []))) t ∙ sym (ap (before l) t) ∙ h)
+    (λ t. ap (before (l ++ (x ∷ []))) t ∙ no-feed l x (sym (ap (before l) t) ∙ h) e)
   where
-    kept : Bool → Bool → Bool
-    kept rest t = cond t false rest
+    -- by whether the letter before them is the line feed
+    before : List ℕ → Bool → Bool
+    before rest feed = cond feed false (noFeed rest)
 
 -- some line, in a buffer as far as it has come
 abbrev pub SomeLine : List ℕ → Partly → Type 0

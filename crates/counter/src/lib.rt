@@ -1,4 +1,4 @@
-// What lasts from line to line, and where the lines come from: standard input, the facility with its answers so far, and a line served.
+// What lasts from line to line: the facility, and the bytes of its answers. Also the input, line by line, and a line served.
 pub mod input;
 pub mod kept;
 pub mod line;

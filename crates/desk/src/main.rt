@@ -37,7 +37,7 @@ fn part(asks: bool, complete: bool) {
     }
 }
 
-// What the desk itself says of a line: nothing where the facility answers it.
+// What the desk itself says of a line: nothing where there was something to carry out (`clerk/specs/Told.one-of-them`).
 fn tell(number: usize, said: Line, state: Facility, paper: &mut [u8]) {
     let told = put_told(&mut paper[..], 0, number, said, state);
     write_all(libc::STDOUT_FILENO, first_of(&paper[..], told));
