@@ -24,6 +24,7 @@ use Rattle.session.specs.Run.{Ran, ran, ranFrom, over}
 use Rattle.clerk.specs.Spoken.{commandBytes, bytesFor, spoken}
 use Rattle.clerk.specs.Heard.{heard}
 use Rattle.counter.specs.Kept.{Books, allBooked}
+use Rattle.counter.specs.Line.{heardWith}
 use Rattle.readings.specs.InTurn.{Sent, sent, Short, next, in-parts}
 
 -- ---- a line that says a command
@@ -57,7 +58,7 @@ command-spoken kept ends l a d h =
 
 -- the bytes of a line of at most 131072 letters, with these answers before it
 unfoldable pub said : Books → List ℕ → Bytes
-said b l = spoken (heard false l (b .bytes .letters) (take (b .count + 1) (b .ends))) l (b .bytes .letters)
+said b l = spoken (heardWith false l b) l (b .bytes .letters)
 
 -- each line carried out in the world that the one before it left, with the answers so far
 unfoldable pub lineByLine : List (List ℕ) → World → Bytes → Books → Ran

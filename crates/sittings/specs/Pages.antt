@@ -1,5 +1,5 @@
 -- A text for which there is room is entered whole.
-use mathlib.Core.Path.{_≡_, ap, _∙_}
+use mathlib.Core.Path.{_≡_, refl, ap, _∙_}
 use mathlib.Core.Bool.{true}
 use mathlib.Core.List.{List, [], _∷_}
 use Prim.Native.Nat.{ℕ, suc, _+_, _≤_}
@@ -8,10 +8,10 @@ use native.Mathlib.Numerals.{add-one}
 use native.Mathlib.Omega.{arith}
 use lib.Dec.{ltb}
 use lib.ListN.{length, take, set, length-set}
-use lib.Seq.{sets}
+use lib.Seq.{sets, take-all}
 use borrow.Author.Tests.{lt-ltb}
-use Rattle.ground.specs.Lists.{take-sets}
 use Rattle.printout.specs.Page.{page, letter, entered}
+use Rattle.clerk.specs.Filled.{put-over}
 
 pub placed : (xs b : List ℕ) (n : ℕ) → n + length xs ≤ length b → entered xs (page b n) ≡ page (sets b n xs) (n + length xs)
 unfolding entered letter
@@ -23,4 +23,4 @@ placed (x ∷ xs) b n h =
 
 -- from the start of a page, whatever stood there
 pub whole-there : (xs b : List ℕ) → length xs ≤ length b → let p = entered xs (page b 0) in take (p .filled) (p .letters) ≡ xs
-whole-there xs b h = let room : 0 + length xs ≤ length b = omega arith in rw (placed xs b 0 room) (take-sets b xs 0 room)
+whole-there xs b h = let p = entered xs (page b 0) in put-over b xs (p .letters) (p .filled) refl ∙ take-all (length b) xs h

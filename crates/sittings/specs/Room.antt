@@ -7,6 +7,7 @@ use Prim.Native.Char.{code}
 use native.Mathlib.Omega.{arith}
 use lib.Dec.{eqb, ltb, leb}
 use lib.ListN.{length, take, length-append}
+use lib.Seq.{take-all}
 use borrow.Author.Tests.{leb-true}
 use Rattle.ground.specs.Search.{byTest}
 use Rattle.stream.specs.declared.Request.{Request}
@@ -50,6 +51,9 @@ use Rattle.clerk.specs.Wrong.{expectedText, column, wrongText}
 use Rattle.clerk.specs.Told.{toldFor, told}
 use Rattle.clerk.specs.Heard.{wrongBefore, cutAt, heard}
 use Rattle.clerk.specs.Spoken.{spoken}
+use Rattle.counter.specs.Kept.{Books}
+use Rattle.counter.specs.Service.{carriedOut}
+use Rattle.counter.specs.Line.{served, heardWith, servedLine}
 use Rattle.readings.specs.InTurn.{sent}
 use Rattle.sittings.specs.Pages.{whole-there}
 use Rattle.sittings.specs.Answers.{bytesOf}
@@ -291,6 +295,15 @@ reply-whole ordinal a paper h room = whole-there (reply ordinal a) paper (omega 
 pub told-whole : (number : ℕ) (said : Line) (ps : List Place) (paper : List ℕ) → length ps ≤ 16 → 70000 ≤ length paper
     → let p = entered (told number said ps) (page paper 0) in take (p .filled) (p .letters) ≡ told number said ps
 told-whole number said ps paper h room = whole-there (told number said ps) paper (omega (arith, told-room number said ps h, room))
+
+-- a line served in a piece of so much room: its bytes are all there, and are carried out
+pub served-whole : (longer : Bool) (l : List ℕ) (room : ℕ) (w : World) (out : Bytes) (b : Books) → length l ≤ 131072 → 65538 ≤ room
+    → let bytes = spoken (heardWith longer l b) l (b .bytes .letters) in servedLine longer l room w out b ≡ served (heardWith longer l b) bytes (carriedOut bytes w out b)
+unfolding servedLine
+served-whole longer l room w out b h k =
+    let bytes = spoken (heardWith longer l b) l (b .bytes .letters) in
+    ap (λ (s : Bytes). served (heardWith longer l b) s (carriedOut s w out b))
+    (take-all room bytes (omega (arith, k, spoken-room l (b .bytes .letters) (take (b .count + 1) (b .ends)) h longer)))
 
 pub spoken-whole : (longer : Bool) (l kept ends piece : List ℕ) → length l ≤ 131072 → 65538 ≤ length piece
     → let p = entered (spoken (heard longer l kept ends) l kept) (page piece 0) in take (p .filled) (p .letters) ≡ spoken (heard longer l kept ends) l kept
