@@ -1,7 +1,7 @@
 // Bytes, words and bits. The first byte and the first bit of a word stand at the left.
 ghost use mathlib.Core.Path.{_≡_};
 ghost use mathlib.Core.List.{map};
-ghost use Prim.Native.Nat.{_+_, _<_, _≤_, _^_};
+ghost use Prim.Native.Nat.{_+_, _*_, _<_, _≤_, _^_};
 ghost use lib.Dec.{T};
 ghost use lib.ListN.{length, drop, getD};
 ghost use Rattle.ground.specs.Rows.{row};
@@ -30,14 +30,24 @@ fn put_bits(out: u64, w: u64, table: &[u8], from: usize, to: usize, x: u64) -> u
     bits
 }
 
-// The bits of `x`, a word of `w` bits, that the table names, in the table's order. Two shorter runs, since the compiler writes those out.
+// `left`, and to its right `n` bits of which `right` is the word.
+fn join(left: u64, n: u64, right: u64) -> u64
+    requires { ⌜ (n < 64) × (left * 2 ^ n + right < 2 ^ 64) ⌝ }
+    ensures { λ r. ⌜ r ≡ left * 2 ^ n + right ⌝ }
+{
+    (left << n) + right
+}
+
+// The bits of `x`, a word of `w` bits, that the table names, in the table's order. Two shorter runs, since the compiler writes those out, and neither waits for the other.
 pub fn permute(w: u64, table: &[u8], x: u64) -> u64
     requires { ⌜ (w ≤ 64) × (length (now table) ≤ 64) × T (within 1 w (now table)) ⌝ }
     ensures { λ r. ⌜ (r ≡ permuted w (now (table .entry)) x) × (r < 2 ^ length (now (table .entry))) ⌝ }
 {
     let half = table.len() / 2;
+    let rest = table.len() - half;
     let left = put_bits(0, w, table, 0, half, x);
-    put_bits(left, w, table, half, table.len(), x)
+    let right = put_bits(0, w, table, half, table.len(), x);
+    join(left, rest as u64, right)
 }
 
 fn byte_or_zero(s: &[u8], i: usize) -> u64
