@@ -1,3 +1,4 @@
 pub mod Permutations
 pub mod Loops
 pub mod Undoing
+pub mod Selection
