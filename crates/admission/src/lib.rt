@@ -1,6 +1,7 @@
 // RAS, LAU and CPW: users come, go, and change their passwords; the host may log one out.
 ghost use mathlib.Core.Path.{_≡_};
-ghost use Rattle.rules.specs.Commands.{by, RAS, LAU, CPW, logout, Steps, StepsTable};
+ghost use Rattle.rules.specs.Commands.{by, RAS, LAU, CPW, logout};
+ghost use Rattle.rules.specs.Outcomes.{Steps, StepsTable};
 
 use rules::Outcome;
 use rules::conditions::first;

@@ -1,6 +1,7 @@
 // GDK, LDK and RDK: data keys made, loaded, and moved to a new interchange key.
 ghost use mathlib.Core.Path.{_≡_};
-ghost use Rattle.rules.specs.Commands.{by, GDK, LDK, RDK, Steps};
+ghost use Rattle.rules.specs.Commands.{by, GDK, LDK, RDK};
+ghost use Rattle.rules.specs.Outcomes.{Steps};
 
 use cipher::block::seal;
 use cipher::block::unseal;

@@ -1,6 +1,7 @@
 // GIV, LIV and EIV: initialization vectors made, loaded and enciphered under a data key.
 ghost use mathlib.Core.Path.{_≡_};
-ghost use Rattle.rules.specs.Commands.{by, GIV, LIV, EIV, Steps};
+ghost use Rattle.rules.specs.Commands.{by, GIV, LIV, EIV};
+ghost use Rattle.rules.specs.Outcomes.{Steps};
 
 use cipher::block::decipher;
 use cipher::block::encipher;

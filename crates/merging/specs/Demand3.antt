@@ -8,7 +8,9 @@ use lib.Dec.{eqb}
 use lib.ListN.{length}
 use Rattle.state.specs.declared.Holdings.{Holdings}
 use Rattle.state.specs.State.{Bytes, holders, find}
-use Rattle.rules.specs.Commands.{UserCommand, Command, by, World, Told, Result}
+use Rattle.rules.specs.World.{World}
+use Rattle.rules.specs.Commands.{UserCommand, Command, by}
+use Rattle.rules.specs.Step.{Told, Result}
 use Rattle.properties.specs.Single.{Single}
 use Rattle.merging.specs.Ids.{Distinct, different}
 

@@ -16,8 +16,11 @@ use Rattle.state.specs.declared.Place.{Place}
 use Rattle.state.specs.State.{Bytes, noInterchangeKey, vacant, seat, bare, holders, give, leave, shutTo, seatOf, keyAt, named}
 use Rattle.table.specs.Entries.{fits, idOf, entryIn, entryOf, enterIn, enter}
 use Rattle.table.specs.Passwords.{big, same, sealed, authentic}
-use Rattle.rules.specs.Commands.{UserCommand, RAS, LAU, CPW, GIV, LIV, LDK, mode, World, Told, numberOf, step}
-use Rattle.rules.specs.Commands.{rule, refusals, modeRefusals, effect, test, modeSide, sideFor, functionOf, unknown, wrongPair, withKey, withVector, afterMode, bigPair, badLength, badBlocks}
+use Rattle.rules.specs.World.{World}
+use Rattle.rules.specs.Commands.{UserCommand, RAS, LAU, CPW, GIV, LIV, LDK, mode, refusals, effect}
+use Rattle.rules.specs.Step.{Told, numberOf, step, rule}
+use Rattle.rules.specs.Sides.{modeSide, sideFor, functionOf, unknown, wrongPair, withKey, withVector, afterMode}
+use Rattle.rules.specs.Refusals.{test, bigPair, badLength, badBlocks}
 use Rattle.properties.specs.Single.{Single}
 use Rattle.merging.specs.Ids.{different}
 use Rattle.merging.specs.Demand3.{Request, Lists, Run, users, listOf, alone, here, there, Finished, Merge, done, next, after, gets}
@@ -106,7 +109,7 @@ unfolding step rule refusals effect test give leave shutTo seatOf keyAt named fi
 alone-6 = rw (entry-first 6, entry-first 6, entry-second 6, entry-first 6)
 
 alone-7 : numbers (gets step three (alone 7 of7) 7) ≡ 0 ∷ 11 ∷ 0 ∷ 0 ∷ 0 ∷ []
-unfolding step rule refusals modeRefusals modeSide effect test functionOf unknown wrongPair withKey withVector sideFor afterMode bigPair badLength badBlocks give leave shutTo seatOf keyAt named big bare
+unfolding step rule refusals modeSide effect test functionOf unknown wrongPair withKey withVector sideFor afterMode bigPair badLength badBlocks give leave shutTo seatOf keyAt named big bare
 alone-7 = refl
 
 -- two of the merges: one list after another, and mixed
@@ -151,7 +154,7 @@ module _ (m : Run) (g : Merge lists m) where
 
 -- the table that it leaves: 7 and 5 have gone when 6 comes
 gone : after step three (alone 7 of7 ++ alone 5 of5) ≡ start (replicate 16 vacant)
-unfolding step rule refusals modeRefusals modeSide effect test functionOf unknown wrongPair withKey withVector sideFor afterMode bigPair badLength badBlocks give leave shutTo seatOf keyAt named fits idOf entryIn entryOf big row bare same authentic
+unfolding step rule refusals modeSide effect test functionOf unknown wrongPair withKey withVector sideFor afterMode bigPair badLength badBlocks give leave shutTo seatOf keyAt named fits idOf entryIn entryOf big row bare same authentic
 gone = rw (entry-first 5)
 
 changed : after step (start (replicate 16 vacant)) (alone 6 of6) .table ≡ entry 5 first ++ entry 6 second

@@ -10,9 +10,11 @@ use Rattle.ground.specs.Rows.{row}
 use Rattle.state.specs.declared.Place.{Place}
 use Rattle.state.specs.State.{Bytes, vacant, seat, bare, holders, withPlaces, leave, shutTo, seatOf, keyAt, named}
 use Rattle.table.specs.Entries.{fits, idOf, entryIn, entryOf}
-use Rattle.table.specs.Passwords.{big, same, authentic}
-use Rattle.rules.specs.Commands.{LAU, CPW, Command, by, EIK, IPW, RPW, logout}
-use Rattle.rules.specs.Commands.{Effect, refused, gives, keeps, leaves, enters, writes, World, over, own, shutFor, carry, told, result, rule, refusals, effect, test, step}
+use Rattle.table.specs.Passwords.{big, same, sealed, authentic}
+use Rattle.rules.specs.Commands.{LAU, CPW, Command, by, EIK, IPW, RPW, logout, Effect, refused, gives, keeps, leaves, enters, writes, refusals, effect}
+use Rattle.rules.specs.World.{World, over, own, shutFor, key1}
+use Rattle.rules.specs.Refusals.{test}
+use Rattle.rules.specs.Step.{carry, told, result, rule, step}
 use Rattle.merging.specs.Ids.{distinct, different}
 use Rattle.merging.specs.Demand3.{Request, Lists, alone, here, there, Finished, Merge, done, next, Step, gets, Undisturbed}
 use Rattle.merging.specs.Theorem.{demand-3}
@@ -38,7 +40,7 @@ freesFirst u (refused n) w = carry u (refused n) w
 freesFirst u (gives n b) w = carry u (gives n b) w
 freesFirst u (keeps h) w = carry u (keeps h) w
 freesFirst u leaves w = over (withPlaces (w .facility) (firstFreed (w .facility .places))) (w .table)
-freesFirst u (enters b p) w = carry u (enters b p) w
+freesFirst u (enters password) w = carry u (enters password) w
 freesFirst u (writes b h) w = carry u (writes b h) w
 
 -- ---- CPW writes the first entry rather than the issuer's
@@ -48,7 +50,7 @@ entersFirst u (refused n) w = carry u (refused n) w
 entersFirst u (gives n b) w = carry u (gives n b) w
 entersFirst u (keeps h) w = carry u (keeps h) w
 entersFirst u leaves w = carry u leaves w
-entersFirst u (enters b p) w = over (w .facility) (take 4 (w .table) ++ (b ++ drop 12 (w .table)))
+entersFirst u (enters password) w = over (w .facility) (take 4 (w .table) ++ (sealed (key1 w) u password ++ drop 12 (w .table)))
 entersFirst u (writes b h) w = carry u (writes b h) w
 
 -- ---- RAS looks at the first place, whoever has it, and at no other: 8 where it is taken

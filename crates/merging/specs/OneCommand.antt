@@ -10,8 +10,12 @@ use borrow.Author.Tests.{ne-eqb}
 use Rattle.state.specs.declared.Holdings.{Holdings}
 use Rattle.state.specs.declared.Seat.{Seat}
 use Rattle.state.specs.State.{Bytes, find, seatOf}
-use Rattle.table.specs.Entries.{fits, entryOf, enter}
-use Rattle.rules.specs.Commands.{World, Own, Effect, refused, gives, keeps, leaves, enters, writes, own, carry, by, step, rule, ruleIn, shutFor, told}
+use Rattle.table.specs.Entries.{fits, entryOf}
+use Rattle.table.specs.Passwords.{sealed}
+use Rattle.table.proofs.Laws.{sealed-eight}
+use Rattle.rules.specs.World.{World, Own, own, shutFor, current, key1}
+use Rattle.rules.specs.Commands.{Effect, refused, gives, keeps, leaves, enters, writes, by}
+use Rattle.rules.specs.Step.{carry, step, rule, ruleIn, told}
 use Rattle.properties.specs.Single.{count, Single, single}
 use Rattle.properties.specs.Tables.{become, enter-size, enter-own}
 use Rattle.merging.specs.Ids.{mem, mem-apart}
@@ -26,19 +30,19 @@ withEntry : Own → Option Bytes → Own
 withEntry o b = record { current = o .current; old = o .old; due = o .due; fits = o .fits; entry = b; seat = o .seat }
 
 -- what the issuer's next command sees
-advance : Effect → Own → Own
-advance (refused n) o = o
-advance (gives n b) o = o
-advance (keeps h) o = withSeat o (some h)
-advance leaves o = withSeat o none
-advance (enters b p) o = withEntry o (become b (o .entry))
-advance (writes b h) o = withSeat o (some h)
+advance : ℕ → Effect → Own → Own
+advance u (refused n) o = o
+advance u (gives n b) o = o
+advance u (keeps h) o = withSeat o (some h)
+advance u leaves o = withSeat o none
+advance u (enters password) o = withEntry o (become (sealed (current 1 o) u password) (o .entry))
+advance u (writes b h) o = withSeat o (some h)
 
 -- the table's length, and so whether it fits, stays
-entered : (v u : ℕ) (b : Bytes) (p : length b ≡ 8) (w : World) (x : Option Bytes) → entryOf v (enter u b (w .table)) ≡ x
-    → own v (carry u (enters b p) w) ≡ withEntry (own v w) x
+entered : (v u : ℕ) (password : Bytes) (w : World) (x : Option Bytes) → entryOf v (carry u (enters password) w .table) ≡ x
+    → own v (carry u (enters password) w) ≡ withEntry (own v w) x
 unfolding withEntry
-entered v u b p w x q = rw (enter-size u b (w .table) p, q)
+entered v u password w x q = rw (enter-size u (sealed (key1 w) u password) (w .table) (sealed-eight (key1 w) u password), q)
 
 -- another's command leaves all that v's commands see
 own-other : (v u : ℕ) (e : Effect) (w : World) → eqb v u ≡ false → own v (carry u e w) ≡ own v w
@@ -47,17 +51,19 @@ own-other v u (refused n) w d = refl
 own-other v u (gives n b) w d = refl
 own-other v u (keeps h) w d = ap (withSeat (own v w)) (give-other v u h (w .facility .places) d)
 own-other v u leaves w d = ap (withSeat (own v w)) (leave-other v u (w .facility .places) d)
-own-other v u (enters b p) w d = entered v u b p w (entryOf v (w .table)) (entry-other u b (w .table) p v d)
+own-other v u (enters password) w d =
+    entered v u password w (entryOf v (w .table)) (entry-other u (sealed (key1 w) u password) (w .table) (sealed-eight (key1 w) u password) v d)
 own-other v u (writes b h) w d = ap (withSeat (own v w)) (give-other v u h (w .facility .places) d)
 
 -- what his own command makes of it
-own-mine : (u : ℕ) (e : Effect) (w : World) → count u (w .facility .places) ≤ 1 → shutFor u w ≡ false → own u (carry u e w) ≡ advance e (own u w)
+own-mine : (u : ℕ) (e : Effect) (w : World) → count u (w .facility .places) ≤ 1 → shutFor u w ≡ false → own u (carry u e w) ≡ advance u e (own u w)
 unfolding advance withSeat withEntry
 own-mine u (refused n) w c s = refl
 own-mine u (gives n b) w c s = refl
 own-mine u (keeps h) w c s = ap (withSeat (own u w)) (give-mine u h (w .facility .places) s)
 own-mine u leaves w c s = ap (withSeat (own u w)) (leave-mine u (w .facility .places) c)
-own-mine u (enters b p) w c s = entered u u b p w (become b (entryOf u (w .table))) (enter-own u b (w .table) p)
+own-mine u (enters password) w c s =
+    let b = sealed (key1 w) u password in entered u u password w (become b (entryOf u (w .table))) (enter-own u b (w .table) (sealed-eight (key1 w) u password))
 own-mine u (writes b h) w c s = ap (withSeat (own u w)) (give-mine u h (w .facility .places) s)
 
 -- a seat tells what is held
@@ -81,7 +87,7 @@ places-length u (refused n) w = refl
 places-length u (gives n b) w = refl
 places-length u (keeps h) w = give-length u h (w .facility .places)
 places-length u leaves w = leave-length u (w .facility .places)
-places-length u (enters b p) w = refl
+places-length u (enters password) w = refl
 places-length u (writes b h) w = give-length u h (w .facility .places)
 
 table-from : (a : Bytes) (u : ℕ) (e : Effect) (w : World) → From a (w .table) → From a (carry u e w .table)
@@ -89,7 +95,7 @@ table-from a u (refused n) w f = f
 table-from a u (gives n b) w f = f
 table-from a u (keeps h) w f = f
 table-from a u leaves w f = f
-table-from a u (enters b p) w f = from-enter u b p a (w .table) f
+table-from a u (enters password) w f = from-enter u (sealed (key1 w) u password) (sealed-eight (key1 w) u password) a (w .table) f
 table-from a u (writes b h) w f = f
 
 -- u's request, by what u's commands see, where the facility is open to him
@@ -98,7 +104,7 @@ does u o q = rule u (q .command) (q .output) false o
 
 -- what u's commands see after it
 pub then : ℕ → Own → Request → Own
-then u o q = advance (does u o q) o
+then u o q = advance u (does u o q) o
 
 module _ (who : List ℕ) (a : Bytes) (w : World) (f : Fine who a w) (u : ℕ) (member : mem u who ≡ true) (q : Request) where
   opened : shutFor u w ≡ false
@@ -117,7 +123,7 @@ module _ (who : List ℕ) (a : Bytes) (w : World) (f : Fine who a w) (u : ℕ) (
 
   pub own-then : own u (serve step w (u, q) .world) ≡ then u (own u w) q
   unfolding step effect then
-  own-then = own-mine u effect w (f .single u) opened ∙ ap (λ (e : Effect). advance e (own u w)) effect-does
+  own-then = own-mine u effect w (f .single u) opened ∙ ap (λ (e : Effect). advance u e (own u w)) effect-does
 
   pub own-stays : (v : ℕ) → eqb v u ≡ false → own v (serve step w (u, q) .world) ≡ own v w
   unfolding step effect

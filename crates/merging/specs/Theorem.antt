@@ -8,7 +8,8 @@ use lib.ListN.{length}
 use borrow.Author.Tests.{eqb-true, eq-eqb}
 use Rattle.ground.specs.Search.{byTest}
 use Rattle.state.specs.State.{Bytes, holders}
-use Rattle.rules.specs.Commands.{World, Own, Told, own, told, step}
+use Rattle.rules.specs.World.{World, Own, own}
+use Rattle.rules.specs.Step.{Told, told, step}
 use Rattle.properties.specs.Single.{Single}
 use Rattle.merging.specs.Ids.{mem, Distinct, once, different, mem-left, mem-right, mem-once}
 use Rattle.merging.specs.Demand3.{Request, Lists, Run, users, listOf, alone, Merge, serve, after, gets, holds, Undisturbed}

@@ -1,6 +1,8 @@
 // EIK, IPW and RPW: the officer enters keys and passwords.
 ghost use mathlib.Core.Path.{_≡_};
-ghost use Rattle.rules.specs.Commands.{EIK, IPW, RPW, lacksEntry, outOfTurn, undue, Steps, StepsTable};
+ghost use Rattle.rules.specs.Refusals.{lacksEntry, outOfTurn};
+ghost use Rattle.rules.specs.Commands.{EIK, IPW, RPW, undue};
+ghost use Rattle.rules.specs.Outcomes.{Steps, StepsTable};
 
 use cipher::keys::InterchangeKey;
 use keys::set_parity;

@@ -17,8 +17,10 @@ use Rattle.cipher.proofs.Promise.{modeText-length}
 use Rattle.ground.specs.Search.{byTest}
 use Rattle.state.specs.State.{Bytes}
 use Rattle.rules.specs.declared.Answer.the-variants.{Done, Refused}
-use Rattle.rules.specs.Commands.{UserCommand, RAS, LAU, CPW, GDK, LDK, GIV, LIV, EIV, RDK, mode, DAUT, Command, by, EIK, IPW, RPW, logout}
-use Rattle.rules.specs.Commands.{Test, test, firstOf, World, Own, refused, told, plain, numberOf, Result, result, badBlocks, modeRefusals, refusals, effect, rule, tests, step, stepBy, shutFor, own, carry, settled}
+use Rattle.rules.specs.Commands.{UserCommand, RAS, LAU, CPW, GDK, LDK, GIV, LIV, EIV, RDK, mode, DAUT, Command, by, EIK, IPW, RPW, logout, refused, refusals, effect, tests}
+use Rattle.rules.specs.World.{World, Own, shutFor, own}
+use Rattle.rules.specs.Refusals.{Test, test, firstOf, badBlocks}
+use Rattle.rules.specs.Step.{told, plain, numberOf, Result, result, rule, step, stepBy, carry, settled}
 use Rattle.rules.proofs.Laws.{good-blocks}
 
 -- ---- a list of tests
@@ -142,7 +144,7 @@ module _ (u : ℕ) (d out : Bytes) (shut : Bool) (o : Own) where
   none-holds m h z = is-lowest 1 (refusals u (mode m d) (length out) shut o) (omega arith) h .none z
 
   mode-sound : (m : Mode) → Sound u (mode m d) out shut o
-  unfolding refusals modeRefusals effect
+  unfolding refusals effect
   mode-sound Ecbe = (refl, refl, λ z. let n = none-holds Ecbe refl z in fits Ecbe _ _ (unless _ (n 12)) (unless _ (n 13)))
   mode-sound Ecbd = (refl, refl, λ z. let n = none-holds Ecbd refl z in fits Ecbd _ _ (unless _ (n 12)) (unless _ (n 13)))
   mode-sound Cbce = (refl, refl, λ z. let n = none-holds Cbce refl z in fits Cbce _ _ (unless _ (n 12)) (unless _ (n 13)))
@@ -239,14 +241,14 @@ page (IPW u p) = 1 ∷ 2 ∷ 6 ∷ 7 ∷ 15 ∷ []
 page RPW = 2 ∷ 7 ∷ []
 page (logout u) = 1 ∷ 3 ∷ []
 
-mode-as-printed : (m : Mode) (u : ℕ) (d : Bytes) (room : ℕ) (o : Own) → map (λ (r : Test). r .number) (modeRefusals m u d room o) ≡ modePage m
-unfolding modeRefusals
-mode-as-printed Ecbe u d room o = refl
-mode-as-printed Ecbd u d room o = refl
-mode-as-printed Cbce u d room o = refl
-mode-as-printed Cbcd u d room o = refl
-mode-as-printed Cfbe u d room o = refl
-mode-as-printed Cfbd u d room o = refl
+mode-as-printed : (m : Mode) (u : ℕ) (d : Bytes) (room : ℕ) (shut : Bool) (o : Own) → map (λ (r : Test). r .number) (refusals u (mode m d) room shut o) ≡ modePage m
+unfolding refusals
+mode-as-printed Ecbe u d room shut o = refl
+mode-as-printed Ecbd u d room shut o = refl
+mode-as-printed Cbce u d room shut o = refl
+mode-as-printed Cbcd u d room shut o = refl
+mode-as-printed Cfbe u d room shut o = refl
+mode-as-printed Cfbd u d room shut o = refl
 
 pub as-printed : (c : Command) (w : World) (out : Bytes) → map (λ (r : Test). r .number) (tests c w out) ≡ page c
 unfolding tests refusals
@@ -259,7 +261,7 @@ as-printed (by u (GIV b)) w out = refl
 as-printed (by u (LIV f b)) w out = refl
 as-printed (by u (EIV b)) w out = refl
 as-printed (by u (RDK p i f b)) w out = refl
-as-printed (by u (mode m d)) w out = mode-as-printed m u d (length out) (own u w)
+as-printed (by u (mode m d)) w out = mode-as-printed m u d (length out) (shutFor u w) (own u w)
 as-printed (by u (DAUT f d)) w out = refl
 as-printed (EIK i k) w out = refl
 as-printed (IPW u p) w out = refl

@@ -10,8 +10,10 @@ use Rattle.cipher.specs.declared.modes.Mode.the-variants.{Ecbe, Ecbd, Cbce, Cbc
 use Rattle.stream.specs.declared.Request.{Request}
 use Rattle.state.specs.State.{Bytes}
 use Rattle.rules.specs.declared.Outcome.{Outcome}
-use Rattle.rules.specs.Commands.{UserCommand, RAS, LAU, CPW, GDK, LDK, GIV, LIV, EIV, RDK, mode, DAUT, Command, by, EIK, IPW, RPW, logout}
-use Rattle.rules.specs.Commands.{World, Own, numberOf, left, modeRefusals, refusals, tests, step}
+use Rattle.rules.specs.Commands.{UserCommand, RAS, LAU, CPW, GDK, LDK, GIV, LIV, EIV, RDK, mode, DAUT, Command, by, EIK, IPW, RPW, logout, refusals, tests}
+use Rattle.rules.specs.World.{World, Own, shutFor, own}
+use Rattle.rules.specs.Step.{numberOf, step}
+use Rattle.rules.specs.Outcomes.{left}
 use Rattle.facility.specs.Requests.{commandOf, carriedOut, performed}
 use Rattle.properties.specs.Determined.{same}
 use Rattle.properties.specs.Demand1.{holds, demand-1}
@@ -23,14 +25,14 @@ determined-perform w q d out r r′ t t′ o o′ p p′ = same r r′ t t′ o 
 
 -- ---- 16
 
-mode-lacks : (m : Mode) (u : ℕ) (d : Bytes) (room : ℕ) (o : Own) → holds 16 (modeRefusals m u d room o) ≡ false
-unfolding modeRefusals
-mode-lacks Ecbe u d room o = refl
-mode-lacks Ecbd u d room o = refl
-mode-lacks Cbce u d room o = refl
-mode-lacks Cbcd u d room o = refl
-mode-lacks Cfbe u d room o = refl
-mode-lacks Cfbd u d room o = refl
+mode-lacks : (m : Mode) (u : ℕ) (d : Bytes) (room : ℕ) (shut : Bool) (o : Own) → holds 16 (refusals u (mode m d) room shut o) ≡ false
+unfolding refusals
+mode-lacks Ecbe u d room shut o = refl
+mode-lacks Ecbd u d room shut o = refl
+mode-lacks Cbce u d room shut o = refl
+mode-lacks Cbcd u d room shut o = refl
+mode-lacks Cfbe u d room shut o = refl
+mode-lacks Cfbd u d room shut o = refl
 
 -- it stands in no command's list
 lacks : (c : Command) (w : World) (out : Bytes) → holds 16 (tests c w out) ≡ false
@@ -44,7 +46,7 @@ lacks (by u (GIV b)) w out = refl
 lacks (by u (LIV f b)) w out = refl
 lacks (by u (EIV b)) w out = refl
 lacks (by u (RDK p i f b)) w out = refl
-lacks (by u (mode m d)) w out = mode-lacks m u d (length out) _
+lacks (by u (mode m d)) w out = mode-lacks m u d (length out) (shutFor u w) (own u w)
 lacks (by u (DAUT f d)) w out = refl
 lacks (EIK i k) w out = refl
 lacks (IPW u p) w out = refl

@@ -17,8 +17,10 @@ use Rattle.stream.specs.declared.Field.the-variants.{Whole, Cut, End}
 use Rattle.stream.specs.Fields.{Bytes, part, lengthAt, fieldAt, within}
 use Rattle.stream.specs.Commands.{decoded}
 use Rattle.rules.specs.declared.Answer.the-variants.{Refused}
-use Rattle.rules.specs.Commands.{RAS, LAU, CPW, GDK, LDK, GIV, LIV, EIV, RDK, mode, DAUT, Command, by, EIK, IPW, RPW, logout}
-use Rattle.rules.specs.Commands.{Test, World, result, plain, numberOf, tests, step}
+use Rattle.rules.specs.Commands.{RAS, LAU, CPW, GDK, LDK, GIV, LIV, EIV, RDK, mode, DAUT, Command, by, EIK, IPW, RPW, logout, tests}
+use Rattle.rules.specs.World.{World}
+use Rattle.rules.specs.Refusals.{Test}
+use Rattle.rules.specs.Step.{result, plain, numberOf, step}
 use Rattle.facility.specs.Requests.{commandOf, carriedOut, performed}
 use Rattle.properties.specs.Demand1.{holds, page, modePage, as-printed, demand-1}
 use Rattle.session.specs.Run.{answerTo, Answered, answered, ran, goOn, carryOn, ranFrom, turn}

@@ -1,7 +1,8 @@
 // The six modes, and DAUT.
 ghost use mathlib.Core.Path.{_≡_};
 ghost use Rattle.cipher.specs.declared.modes.Mode.the-variants.{Ecbe, Ecbd, Cbce, Cbcd, Cfbe, Cfbd};
-ghost use Rattle.rules.specs.Commands.{by, mode, DAUT, Steps, StepsOutput};
+ghost use Rattle.rules.specs.Commands.{by, mode, DAUT};
+ghost use Rattle.rules.specs.Outcomes.{Steps, StepsOutput};
 
 use cipher::fixity::fixity_of;
 use cipher::modes::Mode;

@@ -10,7 +10,10 @@ use Rattle.ground.specs.Search.{byTest}
 use Rattle.cipher.specs.declared.modes.Mode.{Mode}
 use Rattle.cipher.specs.declared.modes.Mode.the-variants.{Ecbe, Ecbd, Cbce, Cbcd, Cfbe, Cfbd}
 use Rattle.state.specs.State.{Bytes}
-use Rattle.rules.specs.Commands.{Own, Test, on, r1, r3, r10, r12⁸, r13, test, firstOf, badLength, badBlocks, modeSide, modeRefusals, lacksVector}
+use Rattle.rules.specs.World.{Own, mine}
+use Rattle.rules.specs.Sides.{modeSide, lacksVector}
+use Rattle.rules.specs.Refusals.{Test, on, r1, r3, r10, r12⁸, r13, test, firstOf, badLength, badBlocks}
+use Rattle.rules.specs.Commands.{mode, refusals}
 
 -- where the verdict is 0, the test fails, and so do those after it
 pub passed : (r : ℕ) (t : Bool) (n m : ℕ) → r ≡ test t n m → r ≡ 0 → (n ≡ 0 → ⊥) → (t ≡ false) × (m ≡ 0)
@@ -34,13 +37,13 @@ good-blocks n h =
     (λ e. absurd (true≢false (sym (ap not e) ∙ sym (ap (λ (b : Bool). cond b true (not (eqb (n % 8) 0))) a) ∙ h))))
 
 -- the modes' lists, as one
-pub mode-first : (m : Mode) (u : ℕ) (d : Bytes) (room : ℕ) (o : Own)
-    → firstOf (modeRefusals m u d room o)
-    ≡ firstOf (r1 u ∷ r3 o ∷ r10 (modeSide m (o .seat .holdings)) ∷ on 11 (lacksVector m (modeSide m (o .seat .holdings) .vector .present)) ∷ r12⁸ d ∷ r13 d room ∷ [])
-unfolding modeRefusals lacksVector test
-mode-first Ecbe u d room o = refl
-mode-first Ecbd u d room o = refl
-mode-first Cbce u d room o = refl
-mode-first Cbcd u d room o = refl
-mode-first Cfbe u d room o = refl
-mode-first Cfbd u d room o = refl
+pub mode-first : (m : Mode) (u : ℕ) (d : Bytes) (room : ℕ) (shut : Bool) (o : Own)
+    → firstOf (refusals u (mode m d) room shut o)
+    ≡ firstOf (r1 u ∷ r3 o ∷ r10 (modeSide m (mine o)) ∷ on 11 (lacksVector m (modeSide m (mine o) .vector .present)) ∷ r12⁸ d ∷ r13 d room ∷ [])
+unfolding refusals lacksVector test
+mode-first Ecbe u d room shut o = refl
+mode-first Ecbd u d room shut o = refl
+mode-first Cbce u d room shut o = refl
+mode-first Cbcd u d room shut o = refl
+mode-first Cfbe u d room shut o = refl
+mode-first Cfbd u d room shut o = refl

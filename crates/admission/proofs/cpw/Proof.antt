@@ -1,23 +1,23 @@
 use mathlib.Core.Path.{_≡_, refl}
 use Prim.Native.Nat.{ℕ}
-use Rattle.state.specs.State.{Bytes, keyAt}
-use Rattle.table.specs.Passwords.{sealed}
-use Rattle.table.proofs.Laws.{sealed-eight}
-use Rattle.rules.specs.Commands.{step, refusals, rule, effect, Own, CPW, enters}
+use Rattle.state.specs.State.{Bytes}
+use Rattle.rules.specs.World.{Own, current, key1}
+use Rattle.rules.specs.Commands.{refusals, effect, CPW, enters}
+use Rattle.rules.specs.Step.{step, rule}
 use borrow.Author.Tests.{eq-eqb, ne-eqb}
 use borrow.Author.Needs.{needs}
 use Rattle.admission.proofs.cpw.Statement.{statement}
 use Rattle.admission.proofs.cpw.Tie as tie
 
 -- the effect, opened apart from the tests
-does : (u : ℕ) (p new : Bytes) (o : Own)
-    → effect u (CPW p new) o ≡ enters (sealed (keyAt 1 (o .current) .key .0) u new) (sealed-eight (keyAt 1 (o .current) .key .0) u new)
+does : (u : ℕ) (p new : Bytes) (o : Own) → effect u (CPW p new) o ≡ enters new
 unfolding effect
 does u p new o = refl
 
 returns : tie.Need-returns
 unfolding step refusals rule effect
 returns c out = simp (
+  current,
   c .refused .ensures,
   ne-eqb _ _ (c .before .if1 .taken),
   ← c .before .before .first6 .ensures,
@@ -36,6 +36,7 @@ returns c out = simp (
 returns-2 : tie.Need-returns-2
 unfolding step refusals rule
 returns-2 c out = simp (
+  current,
   eq-eqb _ _ (c .before .before .before .before .before .before .if1 .left),
   ← c .before .before .before .before .before .before .before .first6 .ensures,
   ← c .before .before .before .before .before .before .before .before .first5 .ensures,
@@ -49,6 +50,7 @@ returns-2 c out = simp (
   ← c .before .before .before .before .before .before .before .before .before .before .before .before .before .before .before .before .before .before .before .current-key .ensures,
   ← c .before .before .before .before .before .before .before .before .before .before .before .before .before .before .before .before .before .before .before .before .seat-of .ensures,
 ) (rw does (simp (
+  key1,
   c .done .ensures,
   c .before .before .before .set-entry .ensures,
   ← c .before .before .before .before .seal-password .ensures,

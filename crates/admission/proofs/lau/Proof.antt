@@ -1,4 +1,5 @@
-use Rattle.rules.specs.Commands.{step, refusals, rule, effect}
+use Rattle.rules.specs.Commands.{refusals, effect}
+use Rattle.rules.specs.Step.{step, rule}
 use borrow.Author.Tests.{eq-eqb, ne-eqb}
 use borrow.Author.Needs.{needs}
 use Rattle.admission.proofs.lau.Statement.{statement}

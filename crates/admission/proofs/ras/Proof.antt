@@ -1,4 +1,6 @@
-use Rattle.rules.specs.Commands.{step, refusals, rule, effect}
+use Rattle.rules.specs.World.{current}
+use Rattle.rules.specs.Commands.{refusals, effect}
+use Rattle.rules.specs.Step.{step, rule}
 use borrow.Author.Tests.{eq-eqb, ne-eqb}
 use borrow.Author.Needs.{needs}
 use Rattle.admission.proofs.ras.Statement.{statement}
@@ -7,6 +9,7 @@ use Rattle.admission.proofs.ras.Tie as tie
 returns : tie.Need-returns
 unfolding step refusals rule effect
 returns c out = simp (
+  current,
   c .refused .ensures,
   ne-eqb _ _ (c .before .if1 .taken),
   ← c .before .before .first7 .ensures,
@@ -27,6 +30,7 @@ returns c out = simp (
 returns-2 : tie.Need-returns-2
 unfolding step refusals rule effect
 returns-2 c out = simp (
+  current,
   c .done .ensures,
   ← c .before .keep .ensures,
   ← c .before .before .nothing-held .ensures,

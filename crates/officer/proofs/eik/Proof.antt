@@ -1,4 +1,5 @@
-use Rattle.rules.specs.Commands.{step, tests, keyed}
+use Rattle.rules.specs.Commands.{tests, keyed}
+use Rattle.rules.specs.Step.{step}
 use borrow.Author.Tests.{eq-eqb, ne-eqb}
 use borrow.Author.Needs.{needs}
 use Rattle.officer.proofs.eik.Statement.{statement}

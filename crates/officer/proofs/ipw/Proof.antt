@@ -1,4 +1,6 @@
-use Rattle.rules.specs.Commands.{step, tests}
+use Rattle.rules.specs.World.{key1}
+use Rattle.rules.specs.Commands.{tests}
+use Rattle.rules.specs.Step.{step}
 use borrow.Author.Tests.{eq-eqb, ne-eqb}
 use borrow.Author.Needs.{needs}
 use Rattle.officer.proofs.ipw.Statement.{statement}
@@ -23,6 +25,7 @@ returns c out = simp (
 returns-2 : tie.Need-returns-2
 unfolding step tests
 returns-2 c out = simp (
+  key1,
   c .done .ensures,
   c .before .before .before .enrol .ensures,
   ← c .before .before .before .before .seal-password .ensures,

@@ -1,4 +1,6 @@
-use Rattle.rules.specs.Commands.{step, tests}
+use Rattle.rules.specs.World.{key1, oldKey1}
+use Rattle.rules.specs.Commands.{tests}
+use Rattle.rules.specs.Step.{step}
 use borrow.Author.Tests.{eq-eqb, ne-eqb}
 use borrow.Author.Needs.{needs}
 use Rattle.officer.proofs.rpw.Statement.{statement}
@@ -20,6 +22,8 @@ returns c out = simp (
 returns-2 : tie.Need-returns-2
 unfolding step tests
 returns-2 c out = simp (
+  key1,
+  oldKey1,
   c .done .ensures,
   ← c .before .not-due .ensures,
   c .before .before .before .before .move-all .ensures,

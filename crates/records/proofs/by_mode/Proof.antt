@@ -7,7 +7,10 @@ use Rattle.cipher.specs.declared.keys.Vector.{Vector}
 use Rattle.cipher.specs.Cipher as cipher
 use Rattle.cipher.proofs.Promise.{applied-done, modeText-length}
 use Rattle.state.specs.State.{Bytes}
-use Rattle.rules.specs.Commands.{step, refusals, rule, effect, Own, mode, writes, modeSide, afterMode}
+use Rattle.rules.specs.World.{Own}
+use Rattle.rules.specs.Sides.{modeSide, afterMode}
+use Rattle.rules.specs.Commands.{refusals, effect, mode, writes}
+use Rattle.rules.specs.Step.{step, rule}
 use Rattle.rules.proofs.Laws.{passed, good-blocks, mode-first}
 use borrow.Author.Tests.{eq-eqb, ne-eqb, ltb-false}
 use borrow.Author.Needs.{needs}

@@ -5,7 +5,10 @@ use lib.ListN.{length}
 use Rattle.cipher.specs.Cipher as cipher
 use Rattle.cipher.proofs.Promise.{valued-done}
 use Rattle.state.specs.State.{Bytes}
-use Rattle.rules.specs.Commands.{step, refusals, rule, effect, Own, DAUT, gives, sideFor, functionOf}
+use Rattle.rules.specs.World.{Own}
+use Rattle.rules.specs.Sides.{sideFor, functionOf}
+use Rattle.rules.specs.Commands.{refusals, effect, DAUT, gives}
+use Rattle.rules.specs.Step.{step, rule}
 use Rattle.rules.proofs.Laws.{passed, good-length}
 use borrow.Author.Tests.{eq-eqb, ne-eqb}
 use borrow.Author.Needs.{needs}
