@@ -5,15 +5,20 @@ use mathlib.Core.List.{List, [], _∷_}
 use Prim.Native.Nat.{ℕ, _%_}
 use lib.Dec.{eqb}
 use lib.ListN.{length}
-use borrow.Author.Tests.{eqb-true, eqb-false}
+use borrow.Author.Tests.{eqb-true, eqb-false, eq-eqb, ne-eqb}
 use Rattle.ground.specs.Search.{byTest}
 use Rattle.cipher.specs.declared.modes.Mode.{Mode}
 use Rattle.cipher.specs.declared.modes.Mode.the-variants.{Ecbe, Ecbd, Cbce, Cbcd, Cfbe, Cfbd}
+use Rattle.state.specs.declared.Facility.{Facility}
 use Rattle.state.specs.State.{Bytes}
-use Rattle.rules.specs.World.{Own, mine}
+use Rattle.rules.specs.declared.Answer.the-variants.{Refused}
+use Rattle.rules.specs.declared.Outcome.{Outcome}
+use Rattle.rules.specs.World.{World, over, Own, own, mine}
 use Rattle.rules.specs.Sides.{modeSide, lacksVector}
 use Rattle.rules.specs.Refusals.{Test, on, r1, r3, r10, r12⁸, r13, test, firstOf, badLength, badBlocks}
-use Rattle.rules.specs.Commands.{mode, refusals}
+use Rattle.rules.specs.Commands.{mode, refusals, LAU, Command, by, EIK, IPW, RPW, logout, tests, Effect, refused, effect}
+use Rattle.rules.specs.Step.{rule, carry, plain, told, Result, result, effected, step}
+use Rattle.rules.specs.Outcomes.{left, refusedOf}
 
 -- where the verdict is 0, the test fails, and so do those after it
 pub passed : (r : ℕ) (t : Bool) (n m : ℕ) → r ≡ test t n m → r ≡ 0 → (n ≡ 0 → ⊥) → (t ≡ false) × (m ≡ 0)
@@ -47,3 +52,30 @@ mode-first Cbce u d room shut o = refl
 mode-first Cbcd u d room shut o = refl
 mode-first Cfbe u d room shut o = refl
 mode-first Cfbd u d room shut o = refl
+
+-- ---- a command in its two halves
+
+by-number : (b : Bool) (n u : ℕ) (e : Effect) (w : World) (out : Bytes)
+    → result (told (cond b e (refused n)) out) (carry u (cond b e (refused n)) w)
+    ≡ cond b (result (told e out) (carry u e w)) (result (plain (Refused n) out) w)
+by-number true n u e w out = refl
+by-number false n u e w out = refl
+
+-- refused by the first number that applies; none: what it comes to
+pub halves : (w : World) (c : Command) (out : Bytes)
+    → step w c out ≡ cond (eqb (firstOf (tests c w out)) 0) (effected w c out) (result (plain (Refused (firstOf (tests c w out))) out) w)
+unfolding step rule tests effected
+halves w (by u c) out = let n = firstOf (tests (by u c) w out) in by-number (eqb n 0) n u (effect u c (own u w)) w out
+halves w (EIK i k) out = refl
+halves w (IPW u p) out = refl
+halves w RPW out = refl
+halves w (logout u) out = let n = firstOf (tests (logout u) w out) in by-number (eqb n 0) n u (effect u LAU (own u w)) w out
+
+module _ (f : Facility) (c : Command) (t out : Bytes) (n : ℕ) (e : n ≡ firstOf (tests c (over f t) out)) where
+  -- some condition holds: refused
+  pub by-refusal : (n ≡ 0 → ⊥) → (r : Outcome) → r ≡ refusedOf f n → left r t out ≡ step (over f t) c out
+  by-refusal z r d = rw (halves (over f t) c out, ← e, ne-eqb n 0 z, d)
+
+  -- none holds: the effect
+  pub by-effect : n ≡ 0 → (a : Result) → a ≡ effected (over f t) c out → a ≡ step (over f t) c out
+  by-effect z a d = rw (halves (over f t) c out, ← e, eq-eqb n 0 z) d

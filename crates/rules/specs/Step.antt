@@ -76,6 +76,17 @@ stepBy w u c out = result (told (ruleIn w u c out) out) (carry u (ruleIn w u c o
 abbrev pub settled : ℕ → World → Bytes → World → Result
 settled n w out w′ = cond (eqb n 0) (result (plain Done out) w′) (result (plain (Refused n) out) w)
 
+-- what a command comes to where nothing refuses it
+abbrev pub effectedBy : World → ℕ → UserCommand → Bytes → Result
+effectedBy w u c out = result (told (effect u c (own u w)) out) (carry u (effect u c (own u w)) w)
+
+unfoldable pub effected : World → Command → Bytes → Result
+effected w (by u c) out = effectedBy w u c out
+effected w (EIK i k) out = result (plain Done out) (keyEntered i k w)
+effected w (IPW u p) out = result (plain Done out) (passwordEntered u p w)
+effected w RPW out = result (plain Done out) (passwordsMoved w)
+effected w (logout u) out = effectedBy w u LAU out
+
 unfoldable pub step : World → Command → Bytes → Result
 step w (by u c) out = stepBy w u c out
 step w (EIK i k) out = settled (firstOf (tests (EIK i k) w out)) w out (keyEntered i k w)
