@@ -2,21 +2,23 @@
 use mathlib.Core.Path.{_≡_, refl, sym, ap, _∙_}
 use mathlib.Core.Bool.{Bool, true, false, cond, not, true≢false}
 use mathlib.Core.List.{List, [], _∷_}
-use Prim.Native.Nat.{ℕ, _%_}
+use Prim.Native.Nat.{ℕ, _%_, _≤_}
+use native.Mathlib.Omega.{arith}
 use lib.Dec.{eqb}
 use lib.ListN.{length}
-use borrow.Author.Tests.{eqb-true, eqb-false, eq-eqb, ne-eqb}
+use borrow.Author.Tests.{eqb-true, eqb-false, eq-eqb, ne-eqb, ltb-false}
 use Rattle.ground.specs.Search.{byTest}
 use Rattle.cipher.specs.declared.modes.Mode.{Mode}
 use Rattle.cipher.specs.declared.modes.Mode.the-variants.{Ecbe, Ecbd, Cbce, Cbcd, Cfbe, Cfbd}
 use Rattle.state.specs.declared.Facility.{Facility}
 use Rattle.state.specs.State.{Bytes}
+use Rattle.table.specs.Passwords.{big}
 use Rattle.rules.specs.declared.Answer.the-variants.{Refused}
 use Rattle.rules.specs.declared.Outcome.{Outcome}
-use Rattle.rules.specs.World.{World, over, Own, own, mine}
+use Rattle.rules.specs.World.{World, over, Own, own, shutFor, mine}
 use Rattle.rules.specs.Sides.{modeSide, lacksVector}
 use Rattle.rules.specs.Refusals.{Test, on, r1, r3, r10, r12⁸, r13, test, firstOf, badLength, badBlocks}
-use Rattle.rules.specs.Commands.{mode, refusals, LAU, Command, by, EIK, IPW, RPW, logout, tests, Effect, refused, effect}
+use Rattle.rules.specs.Commands.{mode, DAUT, refusals, LAU, Command, by, EIK, IPW, RPW, logout, tests, Effect, refused, effect}
 use Rattle.rules.specs.Step.{rule, carry, plain, told, Result, result, effected, step}
 use Rattle.rules.specs.Outcomes.{left, refusedOf}
 
@@ -52,6 +54,31 @@ mode-first Cbce u d room shut o = refl
 mode-first Cbcd u d room shut o = refl
 mode-first Cfbe u d room shut o = refl
 mode-first Cfbd u d room shut o = refl
+
+-- a mode that nothing refuses: its data is whole blocks and finds room
+pub mode-passed : (m : Mode) (u : ℕ) (d : Bytes) (w : World) (out : Bytes) → firstOf (tests (by u (mode m d)) w out) ≡ 0
+    → (length d % 8 ≡ 0) × (length d ≤ length out)
+unfolding tests
+mode-passed m u d w out z =
+    let p1 = passed _ _ 1 _ (mode-first m u d (length out) (shutFor u w) (own u w)) z (λ q. omega arith) in
+    let p3 = passed _ _ 3 _ refl (p1 .1) (λ q. omega arith) in
+    let p10 = passed _ _ 10 _ refl (p3 .1) (λ q. omega arith) in
+    let p11 = passed _ _ 11 _ refl (p10 .1) (λ q. omega arith) in
+    let p12 = passed _ _ 12 _ refl (p11 .1) (λ q. omega arith) in
+    let p13 = passed _ _ 13 _ refl (p12 .1) (λ q. omega arith) in
+    (good-blocks (length d) (p12 .0), ltb-false (length out) (length d) (p13 .0))
+
+-- a record whose value nothing refuses has bytes
+pub daut-passed : (u f : ℕ) (d : Bytes) (w : World) (out : Bytes) → firstOf (tests (by u (DAUT f d)) w out) ≡ 0 → (length d ≡ 0 → ⊥)
+unfolding tests refusals
+daut-passed u f d w out z =
+    let p1 = passed _ (big u) 1 _ refl z (λ q. omega arith) in
+    let p3 = passed _ _ 3 _ refl (p1 .1) (λ q. omega arith) in
+    let p5 = passed _ _ 5 _ refl (p3 .1) (λ q. omega arith) in
+    let p10 = passed _ _ 10 _ refl (p5 .1) (λ q. omega arith) in
+    let p11 = passed _ _ 11 _ refl (p10 .1) (λ q. omega arith) in
+    let p12 = passed _ _ 12 _ refl (p11 .1) (λ q. omega arith) in
+    good-length (length d) (p12 .0)
 
 -- ---- a command in its two halves
 

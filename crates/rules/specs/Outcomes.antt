@@ -38,12 +38,18 @@ RefusesTable f t c n = (out : Bytes) → n ≡ firstOf (tests c (over f t) out)
 abbrev pub RefusesOutput : Facility → ℕ → Command → ℕ → Type 0
 RefusesOutput f room c n = (t out : Bytes) → length out ≡ room → n ≡ firstOf (tests c (over f t) out)
 
--- what it comes to where nothing refuses it, in the same three forms as `Steps`
+-- what it comes to where nothing refuses it; of DAUT and the modes this is asked only there, since data of a wrong length has no value and no text
 abbrev pub Effects : Facility → Command → Outcome → Type 0
 Effects f c r = (t out : Bytes) → left r t out ≡ effected (over f t) c out
 
 abbrev pub EffectsTable : Facility → Bytes → Command → Outcome → Bytes → Type 0
 EffectsTable f t c r t′ = (out : Bytes) → left r t′ out ≡ effected (over f t) c out
+
+abbrev pub EffectsThere : Facility → Command → Outcome → Type 0
+EffectsThere f c r = (t out : Bytes) → firstOf (tests c (over f t) out) ≡ 0 → left r t out ≡ effected (over f t) c out
+
+abbrev pub EffectsOutput : Facility → Bytes → Command → Outcome → Bytes → Type 0
+EffectsOutput f out c r out′ = (t : Bytes) → firstOf (tests c (over f t) out) ≡ 0 → left r t out′ ≡ effected (over f t) c out
 
 -- ---- the four outcomes
 
