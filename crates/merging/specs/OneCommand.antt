@@ -14,12 +14,12 @@ use Rattle.table.specs.Entries.{fits, entryOf}
 use Rattle.table.specs.Passwords.{sealed}
 use Rattle.table.proofs.Laws.{sealed-eight}
 use Rattle.rules.specs.World.{World, Own, own, shutFor, current, key1}
-use Rattle.rules.specs.Commands.{Effect, refused, gives, keeps, leaves, enters, writes, by}
-use Rattle.rules.specs.Step.{carry, step, rule, ruleIn, told}
-use Rattle.properties.specs.Single.{count, Single, single}
+use Rattle.rules.specs.Commands.{Effect, refused, gives, keeps, leaves, enters, writes}
+use Rattle.rules.specs.Step.{Told, carry, result}
+use Rattle.properties.specs.Single.{count, Single, single-carried}
 use Rattle.properties.specs.Tables.{become, enter-size, enter-own}
 use Rattle.merging.specs.Ids.{mem, mem-apart}
-use Rattle.merging.specs.Demand3.{Request, serve}
+use Rattle.merging.specs.Demand3.{Request, Step, serve}
 use Rattle.merging.specs.Places.{give-mine, give-other, give-length, leave-mine, leave-other, leave-length, open-to}
 use Rattle.merging.specs.Tables.{entry-other, From, from-enter}
 
@@ -98,45 +98,60 @@ table-from a u leaves w f = f
 table-from a u (enters password) w f = from-enter u (sealed (key1 w) u password) (sealed-eight (key1 w) u password) a (w .table) f
 table-from a u (writes b h) w f = f
 
--- u's request, by what u's commands see, where the facility is open to him
-pub does : ℕ → Own → Request → Effect
-does u o q = rule u (q .command) (q .output) false o
+-- ---- any way to carry out what a user asks for, by what his commands see
 
--- what u's commands see after it
-pub then : ℕ → Own → Request → Own
-then u o q = advance u (does u o q) o
+-- what it does, and what he is told
+pub record Deed : Type 0 where
+  pub effect : Effect
+  pub told : Told
 
-module _ (who : List ℕ) (a : Bytes) (w : World) (f : Fine who a w) (u : ℕ) (member : mem u who ≡ true) (q : Request) where
-  opened : shutFor u w ≡ false
-  opened = open-to who (w .facility .places) (f .single) (f .outside) (f .enough) u member
+-- by the issuer, what he asks for, its output, whether the facility is shut to him, and what his commands see
+abbrev pub Way : Type 0 → Type 0
+Way C = ℕ → C → Bytes → Bool → Own → Deed
 
-  effect : Effect
-  effect = ruleIn w u (q .command) (q .output)
+abbrev pub carriedBy : {C : Type 0} → Way C → Step C
+carriedBy way w u c out = result (way u c out (shutFor u w) (own u w) .told) (carry u (way u c out (shutFor u w) (own u w) .effect) w)
 
-  effect-does : effect ≡ does u (own u w) q
-  unfolding effect does
-  effect-does = ap (λ (b : Bool). rule u (q .command) (q .output) b (own u w)) opened
+module _ {C : Type 0} (way : Way C) where
+  -- u's request, where the facility is open to him
+  pub does : ℕ → Own → Request C → Deed
+  does u o q = way u (q .command) (q .output) false o
 
-  pub answer : serve step w (u, q) .answered ≡ told (does u (own u w) q) (q .output)
-  unfolding step effect
-  answer = ap (λ (e : Effect). told e (q .output)) effect-does
+  -- what u's commands see after it
+  pub then : ℕ → Own → Request C → Own
+  then u o q = advance u (does u o q .effect) o
 
-  pub own-then : own u (serve step w (u, q) .world) ≡ then u (own u w) q
-  unfolding step effect then
-  own-then = own-mine u effect w (f .single u) opened ∙ ap (λ (e : Effect). advance u e (own u w)) effect-does
+  module _ (who : List ℕ) (a : Bytes) (w : World) (f : Fine who a w) (u : ℕ) (member : mem u who ≡ true) (q : Request C) where
+    opened : shutFor u w ≡ false
+    opened = open-to who (w .facility .places) (f .single) (f .outside) (f .enough) u member
 
-  pub own-stays : (v : ℕ) → eqb v u ≡ false → own v (serve step w (u, q) .world) ≡ own v w
-  unfolding step effect
-  own-stays v d = own-other v u effect w d
+    deed : Deed
+    deed = way u (q .command) (q .output) (shutFor u w) (own u w)
 
-  pub fine-then : Fine who a (serve step w (u, q) .world)
-  unfolding step effect
-  fine-then =
-      record {
-        single = single w (by u (q .command)) (q .output) (f .single);
-        outside = λ v n.
-            let d : eqb v u ≡ false = ne-eqb v u (λ r. mem-apart u v who member n (sym r)) in
-            seat-find (find v (carry u effect w .facility .places)) (find v (w .facility .places)) (ap (λ (o : Own). o .seat) (own-other v u effect w d)) ∙ f .outside v n;
-        enough = rw (places-length u effect w) (f .enough);
-        table = table-from a u effect w (f .table);
-      }
+    deed-does : deed ≡ does u (own u w) q
+    unfolding deed does
+    deed-does = ap (λ (b : Bool). way u (q .command) (q .output) b (own u w)) opened
+
+    pub answer : serve (carriedBy way) w (u, q) .answered ≡ does u (own u w) q .told
+    unfolding deed
+    answer = ap (λ (d : Deed). d .told) deed-does
+
+    pub own-then : own u (serve (carriedBy way) w (u, q) .world) ≡ then u (own u w) q
+    unfolding deed then
+    own-then = own-mine u (deed .effect) w (f .single u) opened ∙ ap (λ (d : Deed). advance u (d .effect) (own u w)) deed-does
+
+    pub own-stays : (v : ℕ) → eqb v u ≡ false → own v (serve (carriedBy way) w (u, q) .world) ≡ own v w
+    unfolding deed
+    own-stays v d = own-other v u (deed .effect) w d
+
+    pub fine-then : Fine who a (serve (carriedBy way) w (u, q) .world)
+    unfolding deed
+    fine-then =
+        record {
+          single = single-carried u (deed .effect) w (f .single);
+          outside = λ v n.
+              let d : eqb v u ≡ false = ne-eqb v u (λ r. mem-apart u v who member n (sym r)) in
+              seat-find (find v (carry u (deed .effect) w .facility .places)) (find v (w .facility .places)) (ap (λ (o : Own). o .seat) (own-other v u (deed .effect) w d)) ∙ f .outside v n;
+          enough = rw (places-length u (deed .effect) w) (f .enough);
+          table = table-from a u (deed .effect) w (f .table);
+        }

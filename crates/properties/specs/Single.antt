@@ -148,6 +148,10 @@ single-each w c out v s = at-most v 1 (omega arith) w c out s
 pub single : (w : World) (c : Command) (out : Bytes) → Single (w .facility .places) → Single (step w c out .world .facility .places)
 single w c out s v = single-each w c out v (s v)
 
+-- whatever a user's request does
+pub single-carried : (u : ℕ) (e : Effect) (w : World) → Single (w .facility .places) → Single (carry u e w .facility .places)
+single-carried u e w s v = carried v 1 (omega arith) u e w (s v)
+
 -- a fresh facility has no users
 pub single-fresh : Single (fresh .places)
 unfolding bare
