@@ -1,6 +1,6 @@
--- Demand 3 holds of `step`, the definition that the commands' contracts cite.
+-- Demand 3 holds of any way to carry out what a user asks for that sees and alters his own alone; and so of `step`, the definition that the commands' contracts cite.
 use mathlib.Core.Path.{_≡_, refl, sym, ap, ap₂, _∙_}
-use mathlib.Core.Bool.{Bool, cond, true, false, true≢false}
+use mathlib.Core.Bool.{true, false, true≢false}
 use mathlib.Core.List.{List, [], _∷_, _++_, cons≢nil}
 use Prim.Native.Nat.{ℕ, _≤_}
 use lib.Dec.{eqb}
@@ -9,9 +9,8 @@ use borrow.Author.Tests.{eqb-true, eq-eqb}
 use Rattle.ground.specs.Search.{byTest}
 use Rattle.state.specs.State.{Bytes, holders}
 use Rattle.rules.specs.World.{World, Own, own}
-use Rattle.rules.specs.Commands.{UserCommand, refused, by}
-use Rattle.rules.specs.Step.{Told, plain, told, rule, step}
-use Rattle.rules.specs.declared.Answer.the-variants.{Refused}
+use Rattle.rules.specs.Commands.{UserCommand, by}
+use Rattle.rules.specs.Step.{Told, told, rule, step}
 use Rattle.properties.specs.Single.{Single}
 use Rattle.merging.specs.Ids.{mem, Distinct, once, different, mem-left, mem-right, mem-once}
 use Rattle.merging.specs.Demand3.{Request, Lists, Run, Step, users, listOf, alone, Merge, serve, after, gets, holds, Undisturbed}
@@ -162,11 +161,3 @@ commanded w u c out = step w (by u c) out
 pub demand-3 : Undisturbed commanded
 unfolding step
 demand-3 = any-way byRule
-
--- ---- the reading room: some commands are refused with 19, whatever the world
-module _ (passes : ℕ → UserCommand → Bool) where
-  abbrev pub stationed : Way UserCommand
-  stationed u c out shut o = cond (passes u c) (byRule u c out shut o) (record { effect = refused 19; told = plain (Refused 19) out })
-
-  pub demand-3-station : Undisturbed (carriedBy stationed)
-  demand-3-station = any-way stationed
