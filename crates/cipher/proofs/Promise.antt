@@ -20,7 +20,7 @@ use Rattle.engine.proofs.Undoing.{computed-lt, computed-back}
 use Rattle.cipher.proofs.Parity.{KS-parity}
 use Rattle.cipher.proofs.Turns.{Undoes, given-length, given-join, left-join, given-back, left-back, codebook-undone, chain-undone, feedback-undone, Bounded, codebook-bounded, chain-bounded, unchain-bounded, feedback-bounded, unfeedback-bounded, given-below, left-lt, last, left-given, left-taken, left-still, feedback-64, unfeedback-64}
 use Rattle.cipher.proofs.Blocks.{word-lt, bytes-word, word-bytes, bytes-octets, blocks-below, blocks-length, joined-blocks, joined-length, blocks-joined, joined-whole, joined-append, blocks-append, last-joined}
-use Rattle.cipher.proofs.Texts.{blocks-first, blocks-none, blocks-one, filled-length}
+use Rattle.cipher.proofs.Texts.{blocks-first, blocks-none, blocks-one, filled-length, filled-zeros}
 
 -- ---- one block
 
@@ -277,6 +277,14 @@ fixity-vector k v t n = fixity-means k v t ∙ sym (chain-after k v (filled t) (
 
 pub fixity-octets : (k v t : List ℕ) → (length t ≡ 0 → ⊥) → Octets (fixity k v t)
 fixity-octets k v t n = rw (fixity-vector k v t n) (modeVector-octets Cbce k v (filled t))
+
+-- a record, and the same record with zero bytes behind it that pass no block, have one value
+pub fixity-zeros : (k v t : List ℕ) (n : ℕ) → n ≤ (8 - length t % 8) % 8 → fixity k v (t ++ replicate n 0) ≡ fixity k v t
+fixity-zeros k v t n h = rw (fixity-cbc, fixity-cbc k v t) (ap (λ (f : List ℕ). lastBlock (modeText Cbce k v f)) (filled-zeros t n h))
+
+-- "AB", and "AB" followed by a zero byte
+pub fixity-AB : (k v : List ℕ) → fixity k v (0x41 ∷ 0x42 ∷ 0x00 ∷ []) ≡ fixity k v (0x41 ∷ 0x42 ∷ [])
+fixity-AB k v = fixity-zeros k v (0x41 ∷ 0x42 ∷ []) 1 (omega arith)
 
 -- ---- what the operations answer and leave, case by case
 
