@@ -1,5 +1,5 @@
 mod Parity
 mod Texts
-mod Turns
 mod Blocks
 pub mod Promise
+pub mod Determined

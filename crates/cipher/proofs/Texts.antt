@@ -1,17 +1,17 @@
 -- A text of bytes as blocks, and what the loops over a text keep.
-use mathlib.Core.Path.{_≡_, refl, sym, ap, ap₂, _∙_}
+use mathlib.Core.Path.{_≡_, sym, ap, ap₂, _∙_}
 use mathlib.Core.Logic.{_⊎_, ⊎-elim}
-use mathlib.Core.List.{List, [], _∷_, _++_, append-assoc, append-nil}
-use Prim.Native.Nat.{ℕ, zero, suc, _+_, _-_, _*_, _/_, _%_, _^_, _<_, _≤_}
+use mathlib.Core.List.{List, [], _∷_, _++_, append-assoc}
+use Prim.Native.Nat.{ℕ, zero, suc, _+_, _-_, _/_, _%_, _<_, _≤_}
 use native.Mathlib.Nat.{eq-zero-or-pos}
 use native.Mathlib.Omega.{arith}
-use lib.ListN.{length, getD, take, drop, replicate, length-drop, length-append, length-replicate, replicate-append-replicate, drop-of-length-le, take-append-drop}
+use lib.ListN.{length, take, drop, replicate, length-drop, length-append, length-replicate, replicate-append-replicate, drop-of-length-le, take-append-drop}
 use lib.Seq.{sets, drop-drop, take-all, take-append-le, drop-append-le}
 use Rattle.ground.specs.Rows.{digits}
 use Rattle.ground.specs.Lists.{take-sets, drop-sets, padded, padded-take, padded-fill}
-use Rattle.cipher.specs.declared.modes.Turn.{Turn}
+use Rattle.fips81.specs.declared.Turn.{Turn}
 use Rattle.cipher.specs.Bits.{word, bytes}
-use Rattle.cipher.specs.Fips81.{given, left, cut, blocks, joined, filled}
+use Rattle.fips81.specs.Fips81.{given, left, cut, blocks, joined, filled}
 
 -- ---- the first block, and the rest
 

@@ -1,7 +1,7 @@
 // The fixity value of a record: FIPS PUB 113, from a vector where that starts from zero, and with the whole of the last block.
 ghost use mathlib.Core.Path.{_≡_};
 ghost use Rattle.engine.specs.Fips46.{computed};
-ghost use Rattle.cipher.specs.Fips81.{chain, left, blocks, filled};
+ghost use Rattle.fips81.specs.Fips81.{chain, left, blocks, filled};
 ghost use Rattle.cipher.specs.Cipher.{Value, valued};
 
 use crate::keys::DataKey;
