@@ -5,7 +5,7 @@ use Prim.Native.Nat.{ℕ}
 use Rattle.cipher.specs.declared.modes.Mode.{Mode}
 use Rattle.cipher.specs.declared.modes.Applied.{Applied}
 use Rattle.cipher.specs.declared.fixity.Fixity.{Fixity}
-use Rattle.cipher.specs.Cipher.{Outcome, Value, applied, valued}
+use Rattle.cipher.specs.Cipher.{Outcome, Value, outcomeOf, valueOf, applied, valued}
 
 -- `encipher`, `decipher`, `seal`, `unseal`, `bytes_of`, `word_of`: the contract is an equation for the result
 pub determined : {A : Type 0} (x r r′ : A) → r ≡ x → r′ ≡ x → r ≡ r′
@@ -13,17 +13,12 @@ determined x r r′ p q = p ∙ sym q
 
 -- `apply`: the result, and what the lent output holds afterwards
 pub determined-apply : (m : Mode) (k v t out : List ℕ) (r r′ : Applied) (o o′ : List ℕ)
-    → record { verdict = r .verdict; vector = r .vector .0; output = o } ≡ applied m k v t out
-    → record { verdict = r′ .verdict; vector = r′ .vector .0; output = o′ } ≡ applied m k v t out
-    → (r ≡ r′) × (o ≡ o′)
+    → outcomeOf r o ≡ applied m k v t out → outcomeOf r′ o′ ≡ applied m k v t out → (r ≡ r′) × (o ≡ o′)
 determined-apply m k v t out r r′ o o′ p q =
-    let e = determined (applied m k v t out) _ _ p q in
+    let e = determined (applied m k v t out) (outcomeOf r o) (outcomeOf r′ o′) p q in
     (ap (λ (x : Outcome). record { verdict = x .verdict; vector = record { 0 = x .vector } }) e, ap (λ (x : Outcome). x .output) e)
 
 -- `fixity_of`
-pub determined-fixity : (k v t : List ℕ) (r r′ : Fixity)
-    → record { verdict = r .verdict; value = r .value } ≡ valued k v t
-    → record { verdict = r′ .verdict; value = r′ .value } ≡ valued k v t
-    → r ≡ r′
+pub determined-fixity : (k v t : List ℕ) (r r′ : Fixity) → valueOf r ≡ valued k v t → valueOf r′ ≡ valued k v t → r ≡ r′
 determined-fixity k v t r r′ p q =
-    ap (λ (x : Value). record { verdict = x .verdict; value = x .value }) (determined (valued k v t) _ _ p q)
+    ap (λ (x : Value). record { verdict = x .verdict; value = x .value }) (determined (valued k v t) (valueOf r) (valueOf r′) p q)

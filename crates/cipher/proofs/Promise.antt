@@ -13,14 +13,17 @@ use Rattle.engine.proofs.Undoing.{computed-lt, computed-back}
 use Rattle.fips81.specs.declared.Turn.{Turn}
 use Rattle.fips81.specs.Fips81.{turned, keysFor, codebook, chain, unchain, given, left, blocks, joined}
 use Rattle.fips81.specs.Keyed.{enciphered, deciphered, textOf, vectorOf, turnOf}
-use Rattle.fips81.specs.Turns.{Undoes, given-length, given-join, left-join, given-back, left-back, Bounded, given-below, left-lt, last, left-given, left-taken, left-still, feedback-64, unfeedback-64, turn-bounded, turn-undone}
+use Rattle.fips81.specs.Turns.{Undoes, given-length, given-join, left-join, given-back, left-back, Bounded, given-below, left-lt}
+use Rattle.fips81.specs.Turns.{last, left-given, left-taken, left-still, feedback-64, unfeedback-64, turn-bounded, turn-undone}
 use Rattle.cipher.specs.declared.modes.Mode.{Mode}
 use Rattle.cipher.specs.declared.modes.Mode.the-variants.{Ecbe, Ecbd, Cbce, Cbcd, Cfbe, Cfbd}
 use Rattle.cipher.specs.declared.modes.Verdict.the-variants.{Done, BadLength, NoRoom}
 use Rattle.cipher.specs.Bits.{word, bytes}
-use Rattle.cipher.specs.Cipher.{Octets, Whole, Way, ECB, CBC, CFB, wayOf, directionOf, enciphering, deciphering, modeText, modeVector, filled, lastBlock, fixity, vectorAfter, onto, applied, ruled, fitting, valued}
+use Rattle.cipher.specs.Cipher.{Octets, Whole, Way, ECB, CBC, CFB, wayOf, directionOf, enciphering, deciphering, modeText, modeVector, vectorAfter}
+use Rattle.cipher.specs.Cipher.{filled, lastBlock, fixity, onto, applied, ruled, fitting, valued}
 use Rattle.cipher.proofs.Parity.{KS-parity}
-use Rattle.cipher.proofs.Blocks.{word-lt, bytes-word, word-bytes, bytes-octets, blocks-below, blocks-length, joined-blocks, joined-length, blocks-joined, joined-whole, joined-append, blocks-append, last-joined}
+use Rattle.cipher.proofs.Blocks.{word-lt, bytes-word, word-bytes, bytes-octets, blocks-below, blocks-length, blocks-append, last-joined}
+use Rattle.cipher.proofs.Blocks.{joined-blocks, joined-length, blocks-joined, joined-whole, joined-append}
 use Rattle.cipher.proofs.Texts.{blocks-first, blocks-none, blocks-one, filled-length, filled-zeros}
 
 -- ---- one block
@@ -171,10 +174,13 @@ module _ (k v t : List ℕ) (o : Octets v) (u : Whole t) (n : 0 < length t) wher
       ap bytes (left-taken (turn Cbcd k) (λ x. x < 2 ^ 64) (λ v x h. refl) (word v) (blocks t) (blocks-below t (u .small)))
       ∙ last-taken Cbcd k v t one u
   modeVector-after Cfbe =
-      ap bytes (left-given (turn Cfbe k) (λ x. x < 2 ^ 64) (λ v x h. rw (feedback-64 (computed (KS (word k))) v x h (computed-lt (KS (word k)) v))) (word v) (blocks t) (blocks-below t (u .small)))
+      let e : (v x : ℕ) → x < 2 ^ 64 → turn Cfbe k v x .leaves ≡ turn Cfbe k v x .gives =
+      λ v x h. rw (feedback-64 (computed (KS (word k))) v x h (computed-lt (KS (word k)) v)) in
+      ap bytes (left-given (turn Cfbe k) (λ x. x < 2 ^ 64) e (word v) (blocks t) (blocks-below t (u .small)))
       ∙ last-given Cfbe k v t one
   modeVector-after Cfbd =
-      ap bytes (left-taken (turn Cfbd k) (λ x. x < 2 ^ 64) (λ v x h. rw (unfeedback-64 (computed (KS (word k))) v x h)) (word v) (blocks t) (blocks-below t (u .small)))
+      let e : (v x : ℕ) → x < 2 ^ 64 → turn Cfbd k v x .leaves ≡ x = λ v x h. rw (unfeedback-64 (computed (KS (word k))) v x h) in
+      ap bytes (left-taken (turn Cfbd k) (λ x. x < 2 ^ 64) e (word v) (blocks t) (blocks-below t (u .small)))
       ∙ last-taken Cfbd k v t one u
 
 -- a text of no bytes gives none, and leaves the vector
@@ -282,7 +288,8 @@ fixity-AB k v = fixity-zeros k v (0x41 ∷ 0x42 ∷ []) 1 (omega arith)
 -- ---- what the operations answer and leave, case by case
 
 module _ (m : Mode) (k v t out : List ℕ) where
-  pub applied-done : length t % 8 ≡ 0 → length t ≤ length out → applied m k v t out ≡ record { verdict = Done; vector = modeVector m k v t; output = onto (modeText m k v t) out }
+  pub applied-done : length t % 8 ≡ 0 → length t ≤ length out
+      → applied m k v t out ≡ record { verdict = Done; vector = modeVector m k v t; output = onto (modeText m k v t) out }
   unfolding applied ruled fitting
   applied-done h r = simp (eq-eqb _ _ h, le-leb _ _ r)
 

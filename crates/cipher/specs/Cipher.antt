@@ -1,5 +1,5 @@
--- What the contracts of this crate cite. What the cipher computes (`enciphered`, `deciphered`, and the text and the vector of a mode) is passed on shut from `fips81`,
--- a crate that no layer above lists: above, it is known by the laws of `proofs/Promise.antt` alone.
+-- What the contracts of this crate cite. What the cipher computes (`enciphered`, `deciphered`, the text and the vector of a mode) is passed on, shut, from `fips81`,
+-- a crate that no layer above lists: a layer above knows it by the laws of `proofs/Promise.antt` alone.
 use mathlib.Core.Path.{_≡_}
 use mathlib.Core.Bool.{cond}
 use mathlib.Core.List.{List, _++_}
@@ -9,8 +9,10 @@ use lib.ListN.{length, drop, replicate}
 use Rattle.ground.specs.Lists.{Below}
 use Rattle.cipher.specs.declared.modes.Mode.{Mode}
 use Rattle.cipher.specs.declared.modes.Mode.the-variants.{Ecbe, Ecbd, Cbce, Cbcd, Cfbe, Cfbd}
+use Rattle.cipher.specs.declared.modes.Applied.{Applied}
 use Rattle.cipher.specs.declared.modes.Verdict.{Verdict}
 use Rattle.cipher.specs.declared.modes.Verdict.the-variants.{Done, BadLength, NoRoom}
+use Rattle.cipher.specs.declared.fixity.Fixity.{Fixity}
 use Rattle.fips81.specs.Fips81.{Direction, enciphers, deciphers}
 use Rattle.fips81.specs.Keyed.{textOf, vectorOf}
 pub use Rattle.fips81.specs.Fips81.{Way, ECB, CBC, CFB}
@@ -95,6 +97,10 @@ pub record Outcome : Type 0 where
   pub vector : List ℕ
   pub output : List ℕ
 
+-- the answer of `apply`, with what the output holds afterwards
+abbrev pub outcomeOf : Applied → List ℕ → Outcome
+outcomeOf r out = record { verdict = r .verdict; vector = r .vector .0; output = out }
+
 unfoldable pub ruled : Verdict → Mode → List ℕ → List ℕ → List ℕ → List ℕ → Outcome
 ruled Done m k v t out = record { verdict = Done; vector = modeVector m k v t; output = onto (modeText m k v t) out }
 ruled BadLength m k v t out = record { verdict = BadLength; vector = v; output = out }
@@ -107,6 +113,10 @@ applied m k v t out = ruled (fitting t out) m k v t out
 pub record Value : Type 0 where
   pub verdict : Verdict
   pub value : List ℕ
+
+-- the answer of `fixity_of`
+abbrev pub valueOf : Fixity → Value
+valueOf r = record { verdict = r .verdict; value = r .value }
 
 unfoldable pub valued : List ℕ → List ℕ → List ℕ → Value
 valued k v t = cond (eqb (length t) 0) (record { verdict = BadLength; value = replicate 8 0 }) (record { verdict = Done; value = fixity k v t })

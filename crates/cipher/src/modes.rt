@@ -5,7 +5,7 @@ ghost use Prim.Native.Nat.{_≤_, _%_, _/_};
 ghost use lib.ListN.{length, drop};
 ghost use Rattle.engine.specs.Fips46.{computed};
 ghost use Rattle.fips81.specs.Fips81.{turned, keysFor, given, left, blocks, joined};
-ghost use Rattle.cipher.specs.Cipher.{wayOf, directionOf, Outcome, applied};
+ghost use Rattle.cipher.specs.Cipher.{wayOf, directionOf, outcomeOf, applied};
 
 use crate::keys::DataKey;
 use crate::keys::Vector;
@@ -97,7 +97,9 @@ fn run(mode: Mode, keys: &[u64], vector: u64, text: &[u8], out: &mut [u8]) -> u6
     requires { ⌜ (length (now text) % 8 ≡ 0) × (length (now text) ≤ length (now out)) ⌝ }
     ensures { λ r. ⌜
         (r ≡ left (turned (wayOf mode) (directionOf mode) (computed (now (keys .entry)))) vector (blocks (now (text .entry))))
-        × (now (out .exit) ≡ joined (given (turned (wayOf mode) (directionOf mode) (computed (now (keys .entry)))) vector (blocks (now (text .entry)))) ++ drop (length (now (text .entry))) (now (out .entry)))
+        × (now (out .exit)
+            ≡ joined (given (turned (wayOf mode) (directionOf mode) (computed (now (keys .entry)))) vector (blocks (now (text .entry))))
+            ++ drop (length (now (text .entry))) (now (out .entry)))
     ⌝ }
 {
     let mut v = vector;
@@ -112,7 +114,7 @@ fn run(mode: Mode, keys: &[u64], vector: u64, text: &[u8], out: &mut [u8]) -> u6
 }
 
 pub fn apply(mode: Mode, key: DataKey, vector: Vector, text: &[u8], out: &mut [u8]) -> Applied
-    ensures { λ r. ⌜ _≡_ {A = Outcome} (record { verdict = r .verdict; vector = r .vector .0; output = now (out .exit) }) (applied mode (key .0) (vector .0) (now (text .entry)) (now (out .entry))) ⌝ }
+    ensures { λ r. ⌜ outcomeOf r (now (out .exit)) ≡ applied mode (key .0) (vector .0) (now (text .entry)) (now (out .entry)) ⌝ }
 {
     if text.len() % 8 != 0 {
         return Applied {

@@ -1,4 +1,4 @@
--- Blocks and texts of bytes under a key k of eight bytes. `cipher` passes these names on, shut: a layer above can neither open them nor name what they are made of.
+-- Blocks and texts of bytes under a key k of eight bytes. `cipher` passes the names on, shut: a layer above can neither open them nor name what is behind them.
 use mathlib.Core.List.{List}
 use Prim.Native.Nat.{ℕ}
 use Rattle.engine.specs.Bits.{word, bytes}

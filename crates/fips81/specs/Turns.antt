@@ -13,7 +13,8 @@ use Rattle.engine.specs.Bits.{word}
 use Rattle.engine.specs.Fips46.{computed, KS}
 use Rattle.engine.proofs.Undoing.{computed-lt, computed-back}
 use Rattle.fips81.specs.declared.Turn.{Turn}
-use Rattle.fips81.specs.Fips81.{codebook, chain, unchain, pad, fed, feedback, unfeedback, given, left, Way, ECB, CBC, CFB, Direction, enciphers, deciphers, turned, keysFor}
+use Rattle.fips81.specs.Fips81.{codebook, chain, unchain, pad, fed, feedback, unfeedback, given, left}
+use Rattle.fips81.specs.Fips81.{Way, ECB, CBC, CFB, Direction, enciphers, deciphers, turned, keysFor}
 use Rattle.fips81.specs.Keyed.{turnOf}
 
 -- ---- two calls equal one call on the joined text, whatever the mode

@@ -19,7 +19,8 @@ use Rattle.keys.specs.Keys.{sum, odd, ones, allOdd, mixed, parityOf, gro
 pub odd-is : (s : ℕ) → s * 2 + (1 - (s / 64 % 2 + s / 32 % 2 + s / 16 % 2 + s / 8 % 2 + s / 4 % 2 + s / 2 % 2 + s % 2) % 2) ≡ odd s
 unfolding odd digits
 odd-is s =
-    let e : s / 64 % 2 + s / 32 % 2 + s / 16 % 2 + s / 8 % 2 + s / 4 % 2 + s / 2 % 2 + s % 2 ≡ sum (s / 64 % 2 ∷ s / 32 % 2 ∷ s / 16 % 2 ∷ s / 8 % 2 ∷ s / 4 % 2 ∷ s / 2 % 2 ∷ s % 2 ∷ []) = omega arith in
+    let e : s / 64 % 2 + s / 32 % 2 + s / 16 % 2 + s / 8 % 2 + s / 4 % 2 + s / 2 % 2 + s % 2
+    ≡ sum (s / 64 % 2 ∷ s / 32 % 2 ∷ s / 16 % 2 ∷ s / 8 % 2 ∷ s / 4 % 2 ∷ s / 2 % 2 ∷ s % 2 ∷ []) = omega arith in
     rw (e, div-one)
 
 pub parity-is : (b : List ℕ) → length b ≡ 8

@@ -17,7 +17,9 @@ returns c =
     c .bytes-of .ensures
     ∙ ap bytes
     (c .before .compute .ensures
-    ∙ ap₂ computed (at-keys .reversed .ensures ∙ ap reverse (at-schedule .key-schedule .ensures ∙ ap KS (at-key .word-of .ensures))) (at-block .word-of2 .ensures))
+    ∙ ap₂ computed
+    (at-keys .reversed .ensures ∙ ap reverse (at-schedule .key-schedule .ensures ∙ ap KS (at-key .word-of .ensures)))
+    (at-block .word-of2 .ensures))
 
 pub backwards-spec : {M : Type 1} → statement M
 backwards-spec =

@@ -29,8 +29,9 @@ entry-read c =
 
 -- the bits so far, with one more
 more : (c : tie.After-wide Inv-loop μ-loop)
-    → c .before .before .before .loop .bits * 2 + bit (c .before .before .before .before .before .args .w) (c .before .before .before .before .before .args .x) (c .wide .result)
-    < 2 ^ (c .before .before .before .loop .i + 1)
+    → let turn = c .before .before .before .loop in
+    let start = c .before .before .before .before .before .args in
+    turn .bits * 2 + bit (start .w) (start .x) (c .wide .result) < 2 ^ (turn .i + 1)
 more c = wider 2 _ (c .before .before .before .loop .inv .1) (bit-lt _ _ _)
 
 sub-n : tie.Need-sub-n Inv-loop μ-loop
