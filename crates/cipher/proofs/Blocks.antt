@@ -2,17 +2,16 @@
 use mathlib.Core.Path.{_≡_, refl, sym, ap, ap₂, _∙_}
 use mathlib.Core.List.{List, [], _∷_, _++_, append-assoc, append-nil}
 use Prim.Native.Nat.{ℕ, zero, suc, _+_, _-_, _*_, _/_, _%_, _^_, _<_, _≤_}
-use native.Mathlib.Nat.{not-suc-le-zero}
 use native.Mathlib.Omega.{arith}
 use lib.Dec.{lit<}
-use lib.ListN.{length, getD, take, drop, length-drop, length-append, length-take, take-append-drop, drop-of-length-le, List·getD-append}
-use lib.Seq.{take-append-le, drop-append-le, take-at, drop-at, getD-drop, length-take-le, drop-append-add}
-use Rattle.ground.specs.Rows.{row, digits, row-lt, shorter, digits-row, row-digits, digits-below, digits-length}
+use lib.ListN.{length, take, drop, length-drop, length-append, length-take, take-append-drop}
+use lib.Seq.{take-append-le, drop-append-le, length-take-le, drop-append-add}
+use Rattle.ground.specs.Rows.{digits, row-lt, shorter, digits-row, row-digits, digits-below, digits-length}
 use Rattle.ground.specs.Lists.{Below, below-take, below-drop, below-append, none}
 use Rattle.cipher.specs.Bits.{word, bytes}
-use Rattle.cipher.specs.Fips81.{cut, blocks, joined, lastBlock}
+use Rattle.fips81.specs.Fips81.{cut, blocks, joined, lastBlock}
 use Rattle.cipher.specs.Cipher.{Octets, Whole}
-use Rattle.cipher.proofs.Turns.{last}
+use Rattle.fips81.specs.Turns.{last}
 
 -- ---- eight bytes and a word
 

@@ -1,5 +1,5 @@
-pub mod Parity
-pub mod Texts
-pub mod Turns
-pub mod Blocks
+mod Parity
+mod Texts
+mod Blocks
 pub mod Promise
+pub mod Determined

@@ -1,17 +1,17 @@
 -- A text of bytes as blocks, and what the loops over a text keep.
-use mathlib.Core.Path.{_≡_, refl, sym, ap, ap₂, _∙_}
+use mathlib.Core.Path.{_≡_, sym, ap, ap₂, _∙_}
 use mathlib.Core.Logic.{_⊎_, ⊎-elim}
-use mathlib.Core.List.{List, [], _∷_, _++_, append-assoc, append-nil}
-use Prim.Native.Nat.{ℕ, zero, suc, _+_, _-_, _*_, _/_, _%_, _^_, _<_, _≤_}
+use mathlib.Core.List.{List, [], _∷_, _++_, append-assoc}
+use Prim.Native.Nat.{ℕ, zero, suc, _+_, _-_, _/_, _%_, _<_, _≤_}
 use native.Mathlib.Nat.{eq-zero-or-pos}
 use native.Mathlib.Omega.{arith}
-use lib.ListN.{length, getD, take, drop, replicate, length-drop, length-append, length-replicate, drop-of-length-le, take-append-drop}
+use lib.ListN.{length, take, drop, replicate, length-drop, length-append, length-replicate, replicate-append-replicate, drop-of-length-le, take-append-drop}
 use lib.Seq.{sets, drop-drop, take-all, take-append-le, drop-append-le}
 use Rattle.ground.specs.Rows.{digits}
 use Rattle.ground.specs.Lists.{take-sets, drop-sets, padded, padded-take, padded-fill}
-use Rattle.cipher.specs.declared.modes.Turn.{Turn}
+use Rattle.fips81.specs.declared.Turn.{Turn}
 use Rattle.cipher.specs.Bits.{word, bytes}
-use Rattle.cipher.specs.Fips81.{given, left, cut, blocks, joined, filled}
+use Rattle.fips81.specs.Fips81.{given, left, cut, blocks, joined, filled}
 
 -- ---- the first block, and the rest
 
@@ -80,6 +80,15 @@ written out out₀ w i t d = sym (take-append-drop i out) ∙ ap₂ (λ (a b : L
 pub filled-length : (t : List ℕ) → length (filled t) ≡ length t + (8 - length t % 8) % 8
 unfolding filled
 filled-length t = length-append t (replicate ((8 - length t % 8) % 8) 0) ∙ ap (λ (n : ℕ). length t + n) (length-replicate ((8 - length t % 8) % 8) 0)
+
+-- zero bytes that fill a record no further than its last block leave the filled record as it is
+pub filled-zeros : (t : List ℕ) (n : ℕ) → n ≤ (8 - length t % 8) % 8 → filled (t ++ replicate n 0) ≡ filled t
+unfolding filled
+filled-zeros t n h =
+    let l : length (t ++ replicate n 0) ≡ length t + n = length-append t (replicate n 0) ∙ ap (λ (m : ℕ). length t + m) (length-replicate n 0) in
+    let e : n + (8 - length (t ++ replicate n 0) % 8) % 8 ≡ (8 - length t % 8) % 8 = omega arith in
+    append-assoc t (replicate n 0) _
+    ∙ ap (λ (z : List ℕ). t ++ z) (replicate-append-replicate n ((8 - length (t ++ replicate n 0) % 8) % 8) 0 ∙ ap (λ (m : ℕ). replicate m 0) e)
 
 -- a block read with its filling is a block of the filled record
 pub filled-at : (t : List ℕ) (i : ℕ) → i % 8 ≡ 0 → i < length t → padded 8 (drop i t) ≡ padded 8 (drop i (filled t))

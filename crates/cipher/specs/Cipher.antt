@@ -1,6 +1,6 @@
--- What the contracts of this crate cite. What the cipher computes (`enciphered`, `deciphered`, `modeText`, `modeVector`, `fixity`) is shut: a layer above
--- knows it by the laws of `proofs/Promise.antt` alone, and only this crate's own proofs use the equations `..-means` (`tests/shut` holds to that).
-use mathlib.Core.Path.{_≡_, refl}
+-- What the contracts of this crate cite. What the cipher computes (`enciphered`, `deciphered`, the text and the vector of a mode) is passed on, shut, from `fips81`,
+-- a crate that no layer above lists: a layer above knows it by the laws of `proofs/Promise.antt` alone.
+use mathlib.Core.Path.{_≡_}
 use mathlib.Core.Bool.{cond}
 use mathlib.Core.List.{List, _++_}
 use Prim.Native.Nat.{ℕ, _%_}
@@ -9,12 +9,15 @@ use lib.ListN.{length, drop, replicate}
 use Rattle.ground.specs.Lists.{Below}
 use Rattle.cipher.specs.declared.modes.Mode.{Mode}
 use Rattle.cipher.specs.declared.modes.Mode.the-variants.{Ecbe, Ecbd, Cbce, Cbcd, Cfbe, Cfbd}
+use Rattle.cipher.specs.declared.modes.Applied.{Applied}
 use Rattle.cipher.specs.declared.modes.Verdict.{Verdict}
 use Rattle.cipher.specs.declared.modes.Verdict.the-variants.{Done, BadLength, NoRoom}
-use Rattle.cipher.specs.Bits.{word, bytes}
-use Rattle.engine.specs.Fips46.{computed, encipher, decipher}
-use Rattle.cipher.specs.Fips81.{given, left, turned, keysFor, blocks, joined}
-unfoldable pub use Rattle.cipher.specs.Fips81.{filled, lastBlock}
+use Rattle.cipher.specs.declared.fixity.Fixity.{Fixity}
+use Rattle.fips81.specs.Fips81.{Direction, enciphers, deciphers}
+use Rattle.fips81.specs.Keyed.{textOf, vectorOf}
+pub use Rattle.fips81.specs.Fips81.{Way, ECB, CBC, CFB}
+pub use Rattle.fips81.specs.Keyed.{enciphered, deciphered}
+unfoldable pub use Rattle.fips81.specs.Fips81.{filled, lastBlock}
 
 -- eight bytes; a whole number of blocks of bytes
 pub record Octets (b : List ℕ) : Type 0 where
@@ -25,29 +28,23 @@ pub record Whole (t : List ℕ) : Type 0 where
   pub blocks : length t % 8 ≡ 0
   pub small : Below 256 t
 
--- ---- a block b of eight bytes under a key k of eight bytes
+-- ---- the modes: E enciphers, D deciphers
 
-pub enciphered : List ℕ → List ℕ → List ℕ
-enciphered k b = bytes (encipher (word k) (word b))
+unfoldable pub wayOf : Mode → Way
+wayOf Ecbe = ECB
+wayOf Ecbd = ECB
+wayOf Cbce = CBC
+wayOf Cbcd = CBC
+wayOf Cfbe = CFB
+wayOf Cfbd = CFB
 
-pub deciphered : List ℕ → List ℕ → List ℕ
-deciphered k b = bytes (decipher (word k) (word b))
-
--- ---- a text t by a mode, from a vector v of eight bytes: the text that comes of it, and the vector afterwards
-
-pub modeText : Mode → List ℕ → List ℕ → List ℕ → List ℕ
-modeText m k v t = joined (given (turned m (computed (keysFor m (word k)))) (word v) (blocks t))
-
-pub modeVector : Mode → List ℕ → List ℕ → List ℕ → List ℕ
-modeVector m k v t = bytes (left (turned m (computed (keysFor m (word k)))) (word v) (blocks t))
-
--- CBC enciphering of the plain record from the vector, the short last block filled: the last cipher block
-pub fixity : List ℕ → List ℕ → List ℕ → List ℕ
-fixity k v t = lastBlock (modeText Cbce k v (filled t))
-
--- the three modes, and the two directions of each
-pub data Way : Type 0 where
-  ECB CBC CFB : Way
+unfoldable pub directionOf : Mode → Direction
+directionOf Ecbe = enciphers
+directionOf Ecbd = deciphers
+directionOf Cbce = enciphers
+directionOf Cbcd = deciphers
+directionOf Cfbe = enciphers
+directionOf Cfbd = deciphers
 
 unfoldable pub enciphering : Way → Mode
 enciphering ECB = Ecbe
@@ -58,6 +55,17 @@ unfoldable pub deciphering : Way → Mode
 deciphering ECB = Ecbd
 deciphering CBC = Cbcd
 deciphering CFB = Cfbd
+
+-- a text t by a mode under a key k, from a vector v of eight bytes: the text that comes of it, and the vector afterwards
+unfoldable pub modeText : Mode → List ℕ → List ℕ → List ℕ → List ℕ
+modeText m k v t = textOf (wayOf m) (directionOf m) k v t
+
+unfoldable pub modeVector : Mode → List ℕ → List ℕ → List ℕ → List ℕ
+modeVector m k v t = vectorOf (wayOf m) (directionOf m) k v t
+
+-- CBC enciphering of the plain record from the vector, the short last block filled: the last cipher block
+unfoldable pub fixity : List ℕ → List ℕ → List ℕ → List ℕ
+fixity k v t = lastBlock (modeText Cbce k v (filled t))
 
 -- the vector after a text t that became the text c: the last cipher block, which E gives and D takes; ECB leaves the vector
 unfoldable pub vectorAfter : Mode → (v t c : List ℕ) → List ℕ
@@ -89,6 +97,10 @@ pub record Outcome : Type 0 where
   pub vector : List ℕ
   pub output : List ℕ
 
+-- the answer of `apply`, with what the output holds afterwards
+abbrev pub outcomeOf : Applied → List ℕ → Outcome
+outcomeOf r out = record { verdict = r .verdict; vector = r .vector .0; output = out }
+
 unfoldable pub ruled : Verdict → Mode → List ℕ → List ℕ → List ℕ → List ℕ → Outcome
 ruled Done m k v t out = record { verdict = Done; vector = modeVector m k v t; output = onto (modeText m k v t) out }
 ruled BadLength m k v t out = record { verdict = BadLength; vector = v; output = out }
@@ -102,27 +114,9 @@ pub record Value : Type 0 where
   pub verdict : Verdict
   pub value : List ℕ
 
+-- the answer of `fixity_of`
+abbrev pub valueOf : Fixity → Value
+valueOf r = record { verdict = r .verdict; value = r .value }
+
 unfoldable pub valued : List ℕ → List ℕ → List ℕ → Value
 valued k v t = cond (eqb (length t) 0) (record { verdict = BadLength; value = replicate 8 0 }) (record { verdict = Done; value = fixity k v t })
-
--- ---- for this crate's proofs
-
-pub enciphered-means : (k b : List ℕ) → enciphered k b ≡ bytes (encipher (word k) (word b))
-unfolding enciphered
-enciphered-means k b = refl
-
-pub deciphered-means : (k b : List ℕ) → deciphered k b ≡ bytes (decipher (word k) (word b))
-unfolding deciphered
-deciphered-means k b = refl
-
-pub modeText-means : (m : Mode) (k v t : List ℕ) → modeText m k v t ≡ joined (given (turned m (computed (keysFor m (word k)))) (word v) (blocks t))
-unfolding modeText
-modeText-means m k v t = refl
-
-pub modeVector-means : (m : Mode) (k v t : List ℕ) → modeVector m k v t ≡ bytes (left (turned m (computed (keysFor m (word k)))) (word v) (blocks t))
-unfolding modeVector
-modeVector-means m k v t = refl
-
-pub fixity-means : (k v t : List ℕ) → fixity k v t ≡ lastBlock (modeText Cbce k v (filled t))
-unfolding fixity
-fixity-means k v t = refl

@@ -1,3 +1,2 @@
 pub mod Bits
-pub mod Fips81
 pub mod Cipher

@@ -1,8 +1,8 @@
 // The fixity value of a record: FIPS PUB 113, from a vector where that starts from zero, and with the whole of the last block.
 ghost use mathlib.Core.Path.{_≡_};
 ghost use Rattle.engine.specs.Fips46.{computed};
-ghost use Rattle.cipher.specs.Fips81.{chain, left, blocks, filled};
-ghost use Rattle.cipher.specs.Cipher.{Value, valued};
+ghost use Rattle.fips81.specs.Fips81.{chain, left, blocks, filled};
+ghost use Rattle.cipher.specs.Cipher.{valueOf, valued};
 
 use crate::keys::DataKey;
 use crate::keys::Vector;
@@ -33,7 +33,7 @@ fn chained(keys: &[u64], vector: u64, plain: &[u8]) -> u64
 }
 
 pub fn fixity_of(key: DataKey, vector: Vector, plain: &[u8]) -> Fixity
-    ensures { λ r. ⌜ _≡_ {A = Value} (record { verdict = r .verdict; value = r .value }) (valued (key .0) (vector .0) (now (plain .entry))) ⌝ }
+    ensures { λ r. ⌜ valueOf r ≡ valued (key .0) (vector .0) (now (plain .entry)) ⌝ }
 {
     if plain.len() == 0 {
         return Fixity {

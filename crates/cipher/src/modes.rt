@@ -4,8 +4,8 @@ ghost use mathlib.Core.List.{_++_};
 ghost use Prim.Native.Nat.{_≤_, _%_, _/_};
 ghost use lib.ListN.{length, drop};
 ghost use Rattle.engine.specs.Fips46.{computed};
-ghost use Rattle.cipher.specs.Fips81.{turned, keysFor, given, left, blocks, joined};
-ghost use Rattle.cipher.specs.Cipher.{Outcome, applied};
+ghost use Rattle.fips81.specs.Fips81.{turned, keysFor, given, left, blocks, joined};
+ghost use Rattle.cipher.specs.Cipher.{wayOf, directionOf, outcomeOf, applied};
 
 use crate::keys::DataKey;
 use crate::keys::Vector;
@@ -16,6 +16,7 @@ use crate::words::block_at;
 use engine::bytes_of;
 use crate::words::put_block;
 use engine::word_of;
+use fips81::Turn;
 
 // By the names of their commands: E enciphers, D deciphers. CFB is the one of 64 bits.
 pub enum Mode {
@@ -25,12 +26,6 @@ pub enum Mode {
     Cbcd,
     Cfbe,
     Cfbd,
-}
-
-// What a mode makes of one block: the block that it gives, and the vector that it leaves for the next.
-pub struct Turn {
-    pub gives: u64,
-    pub leaves: u64,
 }
 
 // Done; or the text is no whole number of blocks (of a record: empty); or the output is shorter than the text.
@@ -46,7 +41,7 @@ pub struct Applied {
 }
 
 fn turn_of(mode: Mode, keys: &[u64], vector: u64, block: u64) -> Turn
-    ensures { λ r. ⌜ r ≡ turned mode (computed (now (keys .entry))) vector block ⌝ }
+    ensures { λ r. ⌜ r ≡ turned (wayOf mode) (directionOf mode) (computed (now (keys .entry))) vector block ⌝ }
 {
     match mode {
         Mode::Ecbe => Turn {
@@ -84,7 +79,7 @@ fn turn_of(mode: Mode, keys: &[u64], vector: u64, block: u64) -> Turn
 
 // ECB and CBC decipher with the keys reversed. CFB runs the cipher forwards both ways.
 fn keys_for(mode: Mode, key: u64) -> [u64; 16]
-    ensures { λ r. ⌜ r ≡ keysFor mode key ⌝ }
+    ensures { λ r. ⌜ r ≡ keysFor (wayOf mode) (directionOf mode) key ⌝ }
 {
     let keys = key_schedule(key);
     match mode {
@@ -101,8 +96,10 @@ fn keys_for(mode: Mode, key: u64) -> [u64; 16]
 fn run(mode: Mode, keys: &[u64], vector: u64, text: &[u8], out: &mut [u8]) -> u64
     requires { ⌜ (length (now text) % 8 ≡ 0) × (length (now text) ≤ length (now out)) ⌝ }
     ensures { λ r. ⌜
-        (r ≡ left (turned mode (computed (now (keys .entry)))) vector (blocks (now (text .entry))))
-        × (now (out .exit) ≡ joined (given (turned mode (computed (now (keys .entry)))) vector (blocks (now (text .entry)))) ++ drop (length (now (text .entry))) (now (out .entry)))
+        (r ≡ left (turned (wayOf mode) (directionOf mode) (computed (now (keys .entry)))) vector (blocks (now (text .entry))))
+        × (now (out .exit)
+            ≡ joined (given (turned (wayOf mode) (directionOf mode) (computed (now (keys .entry)))) vector (blocks (now (text .entry))))
+            ++ drop (length (now (text .entry))) (now (out .entry)))
     ⌝ }
 {
     let mut v = vector;
@@ -117,7 +114,7 @@ fn run(mode: Mode, keys: &[u64], vector: u64, text: &[u8], out: &mut [u8]) -> u6
 }
 
 pub fn apply(mode: Mode, key: DataKey, vector: Vector, text: &[u8], out: &mut [u8]) -> Applied
-    ensures { λ r. ⌜ _≡_ {A = Outcome} (record { verdict = r .verdict; vector = r .vector .0; output = now (out .exit) }) (applied mode (key .0) (vector .0) (now (text .entry)) (now (out .entry))) ⌝ }
+    ensures { λ r. ⌜ outcomeOf r (now (out .exit)) ≡ applied mode (key .0) (vector .0) (now (text .entry)) (now (out .entry)) ⌝ }
 {
     if text.len() % 8 != 0 {
         return Applied {

@@ -1,4 +1,3 @@
 pub mod Permutations
 pub mod Loops
 pub mod Undoing
-pub mod Selection

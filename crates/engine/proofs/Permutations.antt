@@ -1,13 +1,13 @@
 -- Laws of permutations by tables: one after another is one by the composed table, and the table 1, 2, .. w changes nothing.
-use mathlib.Core.Path.{_≡_, refl, sym, ap, ap₂, _∙_}
+use mathlib.Core.Path.{_≡_, refl, ap, ap₂, _∙_}
 use mathlib.Core.List.{List, [], _∷_, map}
-use Prim.Native.Nat.{ℕ, zero, suc, _+_, _-_, _*_, _/_, _%_, _^_, _≤_, _<_}
-use native.Mathlib.Nat.{not-suc-le-zero, le-of-suc-le-suc, mod-lt, lt-of-lt-of-le, pow-le-pow-right}
+use Prim.Native.Nat.{ℕ, zero, suc, _+_, _-_, _/_, _%_, _^_, _≤_, _<_}
+use native.Mathlib.Nat.{not-suc-le-zero, le-of-suc-le-suc, mod-lt}
 use native.Mathlib.Omega.{arith}
-use lib.Dec.{T, leb, leb→le}
-use lib.ListN.{length, getD, drop, length-map, length-drop}
+use lib.Dec.{T, leb}
+use lib.ListN.{length, getD, length-map}
 use Rattle.ground.specs.Tests.{both, both-right, within, entry}
-use Rattle.ground.specs.Rows.{row, digits, row-split, row-lt, row-digit, row-digits}
+use Rattle.ground.specs.Rows.{row, digits, row-lt, row-digit, row-digits}
 use Rattle.engine.specs.Bits.{bit, permuted}
 
 pub map-at : (g : ℕ → ℕ) (ns : List ℕ) (i : ℕ) → i < length ns → getD (map g ns) i 0 ≡ g (getD ns i 0)
@@ -25,18 +25,6 @@ bits-below w x (n ∷ ns) (suc i) = bits-below w x ns i
 
 pub permuted-lt : (w : ℕ) (ns : List ℕ) (x : ℕ) → permuted w ns x < 2 ^ length ns
 permuted-lt w ns x = rw (length-map ns (bit w x)) at (row-lt 2 (map (bit w x) ns) (bits-below w x ns))
-
--- the bits that a table names in two runs: those of the first, and to their right those of the second
-module _ (w x left right half : ℕ) (table : List ℕ) (l : row 2 left (map (bit w x) (drop half table)) ≡ permuted w table x) (r : right ≡ permuted w (drop half table) x) where
-  pub in-two : left * 2 ^ (length table - half) + right ≡ permuted w table x
-  in-two =
-      ap (λ (n : ℕ). left * 2 ^ n + right) (sym (length-map (drop half table) (bit w x) ∙ length-drop half table))
-      ∙ ap (λ (n : ℕ). left * 2 ^ length (map (bit w x) (drop half table)) + n) r
-      ∙ sym (row-split 2 left (map (bit w x) (drop half table)))
-      ∙ l
-
-  pub two-fit : length table ≤ 64 → left * 2 ^ (length table - half) + right < 2 ^ 64
-  two-fit h = rw in-two (lt-of-lt-of-le (permuted-lt w table x) (pow-le-pow-right (omega arith) h))
 
 -- bit n of a permuted word is the bit that entry n names
 bit-permuted : (v x : ℕ) (ns : List ℕ) (i : ℕ) → i < length ns → bit (length ns) (permuted v ns x) (suc i) ≡ bit v x (getD ns i 0)

@@ -1,17 +1,15 @@
 -- The computation with the keys in the other order undoes the computation.
-use mathlib.Core.Path.{_≡_, refl, sym, ap, ap₂, _∙_}
-use mathlib.Core.List.{List, [], _∷_, reverse, reverseAux, reverse-reverse}
-use Prim.Native.Nat.{ℕ, zero, suc, _+_, _-_, _*_, _/_, _%_, _^_, _≤_, _<_}
-use native.Mathlib.Nat.{mod-lt, div-lt-iff-lt-mul, div-add-mod', add-zero, zero-add}
+use mathlib.Core.Path.{_≡_, ap, ap₂, _∙_}
+use mathlib.Core.List.{List, [], _∷_, reverse, reverseAux}
+use Prim.Native.Nat.{ℕ, _-_, _/_, _%_, _^_, _<_}
 use native.Mathlib.Omega.{arith}
 use lib.Bits.{bitXor, xor-lt}
-use lib.Pow.{high, low, split, pow-pos}
-use lib.ListN.{length, getD}
+use lib.Pow.{high, low, split}
 use Rattle.engine.specs.Bits.{permuted}
 use Rattle.engine.specs.Tables.{IP, IP⁻¹, E, P}
 use Rattle.engine.specs.Fips46.{f, substituted, rounds, computed}
 use Rattle.ground.specs.Xor.{xor-twice}
-use Rattle.engine.proofs.Permutations.{permuted-lt, permuted-permuted, composed, counted, permuted-counted}
+use Rattle.engine.proofs.Permutations.{permuted-lt, permuted-permuted, permuted-counted}
 
 -- ---- the rounds
 

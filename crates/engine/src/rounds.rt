@@ -4,9 +4,10 @@ ghost use Prim.Native.Nat.{_<_, _^_};
 ghost use lib.Dec.{T};
 ghost use Rattle.ground.specs.Tests.{within};
 ghost use Rattle.engine.specs.Bits.{permuted};
-ghost use Rattle.engine.specs.Tables.{E, IP, IP⁻¹};
+ghost use Rattle.engine.specs.Tables.{IP, IP⁻¹};
 ghost use Rattle.engine.specs.Fips46.{selected, substituted, f, computed};
 
+use crate::tables::E;
 use crate::tables::IP;
 use crate::tables::IP_INVERSE;
 use crate::tables::P;
@@ -45,25 +46,11 @@ fn substitute(b: u64) -> u64
     y
 }
 
-// The bit selection E: six bits at a time that stand together, the word's last bit before the first of them and its first behind the last.
-fn expand(r: u64) -> u64
-    ensures { λ y. ⌜ y ≡ permuted 32 E r ⌝ }
-{
-    let mut y = (r % 2) * 32 + (r >> 27) % 32;
-    y = y * 64 + (r >> 23) % 64;
-    y = y * 64 + (r >> 19) % 64;
-    y = y * 64 + (r >> 15) % 64;
-    y = y * 64 + (r >> 11) % 64;
-    y = y * 64 + (r >> 7) % 64;
-    y = y * 64 + (r >> 3) % 64;
-    y * 64 + ((r % 32) * 2 + (r >> 31) % 2)
-}
-
 // f(R, K)
 fn cipher_function(r: u64, k: u64) -> u64
     ensures { λ y. ⌜ (y ≡ f r k) × (y < 2 ^ 32) ⌝ }
 {
-    let expanded = expand(r);
+    let expanded = permute(32, &E, r);
     let chosen = substitute(k ^ expanded);
     permute(32, &P, chosen)
 }

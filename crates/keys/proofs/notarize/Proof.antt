@@ -7,9 +7,17 @@ use Rattle.keys.proofs.notarize.Tie as tie
 
 returns : tie.Need-returns
 returns c =
-    let k = c .before .before .before .before .before .before .before .before .before .args .key .0 in
-    let l : length k ≡ 8 = search needs in
-    rw (notarized-is k _ _ l, c .mix8 .ensures, c .before .mix7 .ensures, c .before .before .mix6 .ensures, c .before .before .before .mix5 .ensures, c .before .before .before .before .mix4 .ensures, c .before .before .before .before .before .mix3 .ensures, c .before .before .before .before .before .before .mix2 .ensures, c .before .before .before .before .before .before .before .mix .ensures)
+    let at4 = c .before .before .before .before in
+    let start = at4 .before .before .before .before .before in
+    let l : length (start .args .key .0) ≡ 8 = search needs in
+    let at7 = c .before in
+    let at6 = at7 .before in
+    let at5 = at6 .before in
+    let at3 = at4 .before in
+    let at2 = at3 .before in
+    let at1 = at2 .before in
+    rw (notarized-is (start .args .key .0) _ _ l, c .mix8 .ensures, at7 .mix7 .ensures, at6 .mix6 .ensures, at5 .mix5 .ensures,
+    at4 .mix4 .ensures, at3 .mix3 .ensures, at2 .mix2 .ensures, at1 .mix .ensures)
 
 pub notarize-spec : {M : Type 1} → statement M
 notarize-spec =

@@ -7,9 +7,17 @@ use Rattle.keys.proofs.set_parity.Tie as tie
 
 returns : tie.Need-returns
 returns c =
-    let b = c .before .before .before .before .before .before .before .before .args .t1 in
+    let at7 = c .before in
+    let at6 = at7 .before in
+    let at5 = at6 .before in
+    let at4 = at5 .before in
+    let at3 = at4 .before in
+    let at2 = at3 .before in
+    let at1 = at2 .before in
+    let b = at1 .before .args .t1 in
     let l : length b ≡ 8 = search needs in
-    rw (parity-is b l, c .with-parity8 .ensures, c .before .with-parity7 .ensures, c .before .before .with-parity6 .ensures, c .before .before .before .with-parity5 .ensures, c .before .before .before .before .with-parity4 .ensures, c .before .before .before .before .before .with-parity3 .ensures, c .before .before .before .before .before .before .with-parity2 .ensures, c .before .before .before .before .before .before .before .with-parity .ensures)
+    rw (parity-is b l, c .with-parity8 .ensures, at7 .with-parity7 .ensures, at6 .with-parity6 .ensures, at5 .with-parity5 .ensures,
+    at4 .with-parity4 .ensures, at3 .with-parity3 .ensures, at2 .with-parity2 .ensures, at1 .with-parity .ensures)
 
 pub set-parity-spec : {M : Type 1} → statement M
 set-parity-spec =

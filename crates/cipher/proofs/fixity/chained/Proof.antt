@@ -6,10 +6,10 @@ use lib.Bits.{bitXor}
 use lib.ListN.{length, drop}
 use borrow.Author.Needs.{needs}
 use Rattle.ground.specs.Lists.{padded}
-use Rattle.cipher.specs.declared.modes.Turn.{Turn}
+use Rattle.fips81.specs.declared.Turn.{Turn}
 use Rattle.cipher.specs.Bits.{word}
 use Rattle.engine.specs.Fips46.{computed}
-use Rattle.cipher.specs.Fips81.{chain, left, blocks, filled}
+use Rattle.fips81.specs.Fips81.{chain, left, blocks, filled}
 use Rattle.cipher.proofs.Texts.{left-step, left-end, filled-length, filled-at}
 use Rattle.cipher.proofs.fixity.chained.Statement.{statement}
 use Rattle.cipher.proofs.fixity.chained.Tie as tie

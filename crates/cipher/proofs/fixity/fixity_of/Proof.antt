@@ -3,12 +3,12 @@ use mathlib.Core.List.{List}
 use Prim.Native.Nat.{ℕ}
 use lib.ListN.{length}
 use borrow.Author.Needs.{needs}
-use Rattle.cipher.specs.declared.modes.Mode.the-variants.{Cbce}
 use Rattle.cipher.specs.declared.modes.Verdict.the-variants.{Done}
 use Rattle.cipher.specs.Bits.{bytes}
 use Rattle.engine.specs.Fips46.{computed, KS}
-use Rattle.cipher.specs.Fips81.{turned, keysFor, chain, left, blocks, filled}
-use Rattle.cipher.specs.Cipher.{fixity, modeVector-means}
+use Rattle.fips81.specs.Fips81.{turned, keysFor, chain, left, blocks, filled}
+use Rattle.cipher.specs.Cipher.{wayOf, directionOf, modeVector, fixity}
+use Rattle.fips81.specs.Keyed.{vectorOf}
 use Rattle.cipher.proofs.Promise.{valued-done, valued-none, fixity-vector}
 use Rattle.cipher.proofs.fixity.fixity_of.Statement.{statement}
 use Rattle.cipher.proofs.fixity.fixity_of.Tie as tie
@@ -17,16 +17,20 @@ returns : tie.Need-returns
 returns c = sym (valued-none _ _ _ (c .if1 .taken))
 
 returns-2 : tie.Need-returns-2
-unfolding turned keysFor
+unfolding modeVector vectorOf wayOf directionOf turned keysFor
 returns-2 c =
-    let a = c .before .before .before .before .before .before .before .before .before .before .args in
-    let n : (length (a .plain .now) ≡ 0 → ⊥) = c .before .before .before .before .before .before .before .before .if1 .left in
-    let x : c .bytes-of .result ≡ fixity (a .key .0) (a .vector .0) (a .plain .now) =
+    let at-vector = c .before .before in
+    let at-keys = at-vector .before .before in
+    let at-key = at-keys .before in
+    let after-if = at-key .before .before .before in
+    let start = after-if .before .before .args in
+    let n : (length (start .plain .now) ≡ 0 → ⊥) = after-if .if1 .left in
+    let x : c .bytes-of .result ≡ fixity (start .key .0) (start .vector .0) (start .plain .now) =
     c .bytes-of .ensures
     ∙ ap bytes (c .before .chained .ensures
-    ∙ ap₂ (λ (ks : List ℕ) (w : ℕ). left (chain (computed ks)) w (blocks (filled (a .plain .now)))) (c .before .before .before .before .key-schedule .ensures ∙ ap KS (c .before .before .before .before .before .word-of .ensures)) (c .before .before .word-of2 .ensures))
-    ∙ sym (modeVector-means Cbce (a .key .0) (a .vector .0) (filled (a .plain .now)))
-    ∙ sym (fixity-vector (a .key .0) (a .vector .0) (a .plain .now) n) in
+    ∙ ap₂ (λ (ks : List ℕ) (w : ℕ). left (chain (computed ks)) w (blocks (filled (start .plain .now))))
+    (at-keys .key-schedule .ensures ∙ ap KS (at-key .word-of .ensures)) (at-vector .word-of2 .ensures))
+    ∙ sym (fixity-vector (start .key .0) (start .vector .0) (start .plain .now) n) in
     ap (λ (b : List ℕ). record { verdict = Done; value = b }) x ∙ sym (valued-done _ _ _ n)
 
 pub fixity-of-spec : {M : Type 1} → statement M

@@ -33,9 +33,11 @@ same-length c = c .before .loop .inv .1
 
 returns : tie.Need-returns Inv-loop μ-loop
 returns c =
-    let l : length (c .before .before .bytes-of .result) ≡ 8 = search needs in
-    let h : length (c .before .before .bytes-of .result) ≤ c .before .loop .i = omega arith in
-    sym (sets-end _ _ _ _ h) ∙ c .before .loop .inv .2 ∙ ap (sets (c .before .before .before .before .args .s .now) (c .before .before .before .before .args .at)) (c .before .before .bytes-of .ensures)
+    let b = c .before .before .bytes-of in
+    let start = c .before .before .before .before .args in
+    let l : length (b .result) ≡ 8 = search needs in
+    let h : length (b .result) ≤ c .before .loop .i = omega arith in
+    sym (sets-end _ _ _ _ h) ∙ c .before .loop .inv .2 ∙ ap (sets (start .s .now) (start .at)) (b .ensures)
 
 pub put-block-spec : {M : Type 1} → statement M
 put-block-spec =

@@ -19,21 +19,26 @@ abbrev μ-loop : tie.MeasureT-loop
 
 loop-again : tie.Need-loop-again Inv-loop μ-loop
 loop-again c =
-    let h : c .before .before .before .loop .i < length (c .before .before .before .before .before .before .args .keys .now) = search needs in (
+    let turn = c .before .before .before .loop in
+    let start = c .before .before .before .before .before .before in
+    let h : turn .i < length (start .args .keys .now) = search needs in (
       search needs,
       search needs,
-      xor-lt 32 _ _ (c .before .before .before .loop .inv .1) (c .cipher-function .ensures .1),
-      rw (c .cipher-function .ensures .0) (sym (rounds-step _ _ _ _ h) ∙ c .before .before .before .loop .inv .3),
+      xor-lt 32 _ _ (turn .inv .1) (c .cipher-function .ensures .1),
+      rw (c .cipher-function .ensures .0) (sym (rounds-step _ _ _ _ h) ∙ turn .inv .3),
     )
 
 returns : tie.Need-returns Inv-loop μ-loop
 unfolding computed
 returns c =
-    let h : length (c .before .before .before .before .before .args .keys .now) ≤ c .before .before .loop .i = search needs in
+    let turn = c .before .before .loop in
+    let at-ip = c .before .before .before in
+    let start = at-ip .before .before in
+    let h : length (start .args .keys .now) ≤ turn .i = search needs in
     c .inverse-permutation .ensures
     ∙ ap (permuted 64 IP⁻¹)
-    (sym (rounds-end _ _ _ _ h) ∙ c .before .before .loop .inv .3
-    ∙ ap (λ (x : ℕ). rounds (c .before .before .before .before .before .args .keys .now) (x / 2 ^ 32) (x % 2 ^ 32)) (c .before .before .before .initial-permutation .ensures))
+    (sym (rounds-end _ _ _ _ h) ∙ turn .inv .3
+    ∙ ap (λ (x : ℕ). rounds (start .args .keys .now) (x / 2 ^ 32) (x % 2 ^ 32)) (at-ip .initial-permutation .ensures))
 
 pub compute-spec : {M : Type 1} → statement M
 compute-spec =

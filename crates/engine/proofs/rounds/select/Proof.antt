@@ -11,7 +11,9 @@ at b = (b / 32 * 2 + b % 2) * 16 + b / 2 % 16
 
 returns : tie.Need-returns
 unfolding selected at
-returns c = (c .wide .ensures .0, omega (arith, c .wide .ensures .0, at-most 0 15 (c .before .before .args .s .now) (c .before .before .pre .1) (at (c .before .before .args .b))))
+returns c =
+    let start = c .before .before in
+    (c .wide .ensures .0, omega (arith, c .wide .ensures .0, at-most 0 15 (start .args .s .now) (start .pre .1) (at (start .args .b))))
 
 pub select-spec : {M : Type 1} → statement M
 select-spec =

@@ -32,14 +32,17 @@ left-shift-requires-2 c κs =
 
 loop-again : tie.Need-loop-again Inv-loop μ-loop
 loop-again c =
-    let h : c .before .before .before .before .before .before .loop .i < 16 = search needs in
-    let k : c .before .before .before .before .before .before .loop .i < length (c .before .before .before .before .before .before .loop .keys) = search needs in (
+    let at-d = c .before .before in
+    let at-c = at-d .before in
+    let at-n = at-c .before in
+    let turn = at-n .before .before .loop in
+    let h : turn .i < 16 = search needs in
+    let k : turn .i < length (turn .keys) = search needs in (
       search needs,
       search needs,
       search needs,
       search needs,
-      key-step shifts _ _ _ h k (c .before .before .before .before .wide .ensures .0) (c .before .before .before .left-shift .ensures .0) (c .before .before .left-shift2 .ensures .0) (c .permute2 .ensures .0)
-          ∙ c .before .before .before .before .before .before .loop .inv .4,
+      key-step shifts _ _ _ h k (at-n .wide .ensures .0) (at-c .left-shift .ensures .0) (at-d .left-shift2 .ensures .0) (c .permute2 .ensures .0) ∙ turn .inv .4,
     )
 
 returns : tie.Need-returns Inv-loop μ-loop

@@ -38,7 +38,8 @@ loop-again c =
 
 returns : tie.Need-returns Inv-loop μ-loop
 returns c =
-    let h : length (padded 8 (c .before .before .before .args .s .now)) ≤ c .before .loop .i = omega (arith, padded-length 8 (c .before .before .before .args .s .now)) in
+    let s = c .before .before .before .args .s .now in
+    let h : length (padded 8 s) ≤ c .before .loop .i = omega (arith, padded-length 8 s) in
     sym (row-end 256 _ _ _ h) ∙ c .before .loop .inv .2
 
 pub first-block-spec : {M : Type 1} → statement M

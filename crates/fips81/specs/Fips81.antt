@@ -3,11 +3,9 @@ use mathlib.Core.List.{List, [], _∷_, _++_, reverse}
 use Prim.Native.Nat.{ℕ, zero, suc, _+_, _-_, _*_, _/_, _%_, _^_}
 use lib.Bits.{bitXor}
 use lib.ListN.{length, take, drop, replicate}
-use Rattle.cipher.specs.declared.modes.Mode.{Mode}
-use Rattle.cipher.specs.declared.modes.Mode.the-variants.{Ecbe, Ecbd, Cbce, Cbcd, Cfbe, Cfbd}
-use Rattle.cipher.specs.declared.modes.Turn.{Turn}
-use Rattle.cipher.specs.Bits.{word, bytes}
+use Rattle.engine.specs.Bits.{word, bytes}
 use Rattle.engine.specs.Fips46.{KS}
+use Rattle.fips81.specs.declared.Turn.{Turn}
 
 -- ---- what a mode makes of one unit of text x, where the vector is v: the unit that it gives, and the vector that it leaves
 
@@ -47,24 +45,30 @@ unfoldable pub left : (ℕ → ℕ → Turn) → ℕ → List ℕ → ℕ
 left turn v [] = v
 left turn v (x ∷ xs) = left turn (turn v x .leaves) xs
 
--- ---- the six modes
+-- ---- the three modes, and the two directions of each
 
-unfoldable pub turned : Mode → (ℕ → ℕ) → ℕ → ℕ → Turn
-turned Ecbe g = codebook g
-turned Ecbd g = codebook g
-turned Cbce g = chain g
-turned Cbcd g = unchain g
-turned Cfbe g = feedback 64 g
-turned Cfbd g = unfeedback 64 g
+pub data Way : Type 0 where
+  ECB CBC CFB : Way
+
+pub data Direction : Type 0 where
+  enciphers deciphers : Direction
+
+unfoldable pub turned : Way → Direction → (ℕ → ℕ) → ℕ → ℕ → Turn
+turned ECB enciphers g = codebook g
+turned ECB deciphers g = codebook g
+turned CBC enciphers g = chain g
+turned CBC deciphers g = unchain g
+turned CFB enciphers g = feedback 64 g
+turned CFB deciphers g = unfeedback 64 g
 
 -- the keys in the order of the direction that the mode runs: feedback enciphers both ways
-unfoldable pub keysFor : Mode → ℕ → List ℕ
-keysFor Ecbe key = KS key
-keysFor Ecbd key = reverse (KS key)
-keysFor Cbce key = KS key
-keysFor Cbcd key = reverse (KS key)
-keysFor Cfbe key = KS key
-keysFor Cfbd key = KS key
+unfoldable pub keysFor : Way → Direction → ℕ → List ℕ
+keysFor ECB enciphers key = KS key
+keysFor ECB deciphers key = reverse (KS key)
+keysFor CBC enciphers key = KS key
+keysFor CBC deciphers key = reverse (KS key)
+keysFor CFB enciphers key = KS key
+keysFor CFB deciphers key = KS key
 
 -- ---- texts of bytes
 

@@ -1,16 +1,21 @@
--- Laws of the modes on units, over any cipher on words of 64 bits: joining, undoing, and the vector afterwards.
-use mathlib.Core.Path.{_≡_, refl, sym, ap, ap₂, _∙_}
-use mathlib.Core.List.{List, [], _∷_, _++_}
-use Prim.Native.Nat.{ℕ, zero, suc, _+_, _-_, _*_, _/_, _%_, _^_, _<_, _≤_}
-use native.Mathlib.Nat.{div-one, mod-lt, div-lt-iff-lt-mul}
+-- Laws of the modes on units, over any cipher on words of 64 bits: joining, undoing, and the vector afterwards; then under a key.
+use mathlib.Core.Path.{_≡_, refl, ap, _∙_}
+use mathlib.Core.List.{List, [], _∷_, _++_, reverse}
+use Prim.Native.Nat.{ℕ, zero, suc, _+_, _-_, _*_, _^_, _<_}
+use native.Mathlib.Nat.{div-one, mod-lt}
 use native.Mathlib.Omega.{arith}
 use lib.Arith.{digits-mod}
 use lib.Bits.{bitXor, xor-lt}
 use lib.ListN.{length, getD}
 use Rattle.ground.specs.Lists.{Below}
 use Rattle.ground.specs.Xor.{xor-twice}
-use Rattle.cipher.specs.declared.modes.Turn.{Turn}
-use Rattle.cipher.specs.Fips81.{codebook, chain, unchain, pad, fed, feedback, unfeedback, given, left}
+use Rattle.engine.specs.Bits.{word}
+use Rattle.engine.specs.Fips46.{computed, KS}
+use Rattle.engine.proofs.Undoing.{computed-lt, computed-back}
+use Rattle.fips81.specs.declared.Turn.{Turn}
+use Rattle.fips81.specs.Fips81.{codebook, chain, unchain, pad, fed, feedback, unfeedback, given, left}
+use Rattle.fips81.specs.Fips81.{Way, ECB, CBC, CFB, Direction, enciphers, deciphers, turned, keysFor}
+use Rattle.fips81.specs.Keyed.{turnOf}
 
 -- ---- two calls equal one call on the joined text, whatever the mode
 
@@ -166,3 +171,21 @@ module _ (g : ℕ → ℕ) (glt : (x : ℕ) → g x < 2 ^ 64) where
     gives-lt = λ v x h k. rw (unfeedback-64 g v x k) (xor-lt 64 x (g v) k (glt v));
     leaves-lt = λ v x h k. rw (unfeedback-64 g v x k) k
   }
+
+-- ---- under a key k
+
+pub turn-bounded : (w : Way) (d : Direction) (k : List ℕ) → Bounded (turnOf w d k)
+unfolding turned
+turn-bounded ECB enciphers k = codebook-bounded _ (computed-lt _)
+turn-bounded ECB deciphers k = codebook-bounded _ (computed-lt _)
+turn-bounded CBC enciphers k = chain-bounded _ (computed-lt _)
+turn-bounded CBC deciphers k = unchain-bounded _ (computed-lt _)
+turn-bounded CFB enciphers k = feedback-bounded _ (computed-lt _)
+turn-bounded CFB deciphers k = unfeedback-bounded _ (computed-lt _)
+
+-- deciphering undoes enciphering; CFB by the cipher in its enciphering direction
+pub turn-undone : (w : Way) (k : List ℕ) → Undoes (2 ^ 64) (turnOf w enciphers k) (turnOf w deciphers k)
+unfolding turned keysFor
+turn-undone ECB k = codebook-undone (computed (KS (word k))) (computed (reverse (KS (word k)))) (computed-back (KS (word k))) (computed-lt (KS (word k)))
+turn-undone CBC k = chain-undone (computed (KS (word k))) (computed (reverse (KS (word k)))) (computed-back (KS (word k))) (computed-lt (KS (word k)))
+turn-undone CFB k = feedback-undone 64 (computed (KS (word k))) (2 ^ 64)

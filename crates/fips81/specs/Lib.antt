@@ -1,0 +1,3 @@
+pub mod Fips81
+pub mod Keyed
+pub mod Turns
