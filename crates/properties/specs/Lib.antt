@@ -1,11 +1,15 @@
 pub mod Determined
 pub mod Demand1
 pub mod Steps
+pub mod Held
+pub mod Single
+pub mod Others
+pub mod Loads
 pub mod Demand2
+pub mod Vectors
 pub mod Moved
 pub mod Calls
 pub mod Texts
-pub mod Single
 pub mod Tables
 pub mod Passwords
 pub mod Reencrypted
