@@ -13,10 +13,11 @@ use Rattle.state.specs.State.{Bytes, find, seatOf}
 use Rattle.table.specs.Entries.{fits, entryOf, enter}
 use Rattle.rules.specs.Commands.{World, Own, Effect, refused, gives, keeps, leaves, enters, writes, own, carry, by, step, rule, ruleIn, shutFor, told}
 use Rattle.properties.specs.Single.{count, Single, single}
+use Rattle.properties.specs.Others.{give-other, leave-other}
 use Rattle.properties.specs.Tables.{become, enter-size, enter-own}
 use Rattle.merging.specs.Ids.{mem, mem-apart}
 use Rattle.merging.specs.Demand3.{Request, serve}
-use Rattle.merging.specs.Places.{give-mine, give-other, give-length, leave-mine, leave-other, leave-length, open-to}
+use Rattle.merging.specs.Places.{give-mine, give-length, leave-mine, leave-length, open-to}
 use Rattle.merging.specs.Tables.{entry-other, From, from-enter}
 
 withSeat : Own → Option Holdings → Own
