@@ -8,6 +8,7 @@ pub mod Loads
 pub mod Demand2
 pub mod Vectors
 pub mod Moved
+pub mod Renewed
 pub mod Calls
 pub mod Texts
 pub mod Tables
