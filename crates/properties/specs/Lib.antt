@@ -15,6 +15,11 @@ pub mod Tables
 pub mod Passwords
 pub mod Reencrypted
 pub mod Joined
+pub mod Coded
+pub mod Walk
+pub mod Delivered
+pub mod Oneself
+pub mod OneFacility
 pub mod Still
 pub mod SameReply
 pub mod TwoPlaces
