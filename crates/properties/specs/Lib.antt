@@ -20,6 +20,7 @@ pub mod Walk
 pub mod Delivered
 pub mod Oneself
 pub mod OneFacility
+pub mod Readied
 pub mod Still
 pub mod SameReply
 pub mod TwoPlaces
