@@ -17,10 +17,11 @@ use Rattle.rules.specs.World.{World, Own, own, shutFor, current, key1}
 use Rattle.rules.specs.Commands.{Effect, refused, gives, keeps, leaves, enters, writes}
 use Rattle.rules.specs.Step.{Told, carry, result}
 use Rattle.properties.specs.Single.{count, Single, single-carried}
+use Rattle.properties.specs.Others.{give-other, leave-other}
 use Rattle.properties.specs.Tables.{become, enter-size, enter-own}
 use Rattle.merging.specs.Ids.{mem, mem-apart}
 use Rattle.merging.specs.Demand3.{Request, Step, serve}
-use Rattle.merging.specs.Places.{give-mine, give-other, give-length, leave-mine, leave-other, leave-length, open-to}
+use Rattle.merging.specs.Places.{give-mine, give-length, leave-mine, leave-length, open-to}
 use Rattle.merging.specs.Tables.{entry-other, From, from-enter}
 
 withSeat : Own → Option Holdings → Own

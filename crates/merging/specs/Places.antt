@@ -59,14 +59,6 @@ put-vacant u (p ∷ ps) c =
     (λ k e. rw (k, e, e) (put-vacant u ps (rw (k, e) at c)))
     (λ k. rw k (put-vacant u ps (rw k at c)))
 
-put-other : (v u : ℕ) (x : Place) (ps : List Place) → eqb v u ≡ false → has v x ≡ false → find v (put u x ps) ≡ find v ps
-put-other v u x [] d n = refl
-put-other v u x (p ∷ ps) d n =
-    byPlace u p
-    (λ k e. let f : eqb v (p .user) ≡ false = rw (← (eqb-true u (p .user) e)) d in rw (k, e, n, f))
-    (λ k e. rw (k, e) (ap (λ (o : Option Holdings). cond (eqb v (p .user)) (some (p .holdings)) o) (put-other v u x ps d n)))
-    (λ k. rw k (put-other v u x ps d n))
-
 put-length : (u : ℕ) (x : Place) (ps : List Place) → length (put u x ps) ≡ length ps
 put-length u x [] = refl
 put-length u x (p ∷ ps) = byTest (has u p) (λ e. rw e) (λ e. rw e (ap suc (put-length u x ps)))
@@ -79,11 +71,6 @@ admit-mine u h (p ∷ ps) n a =
     byPlace u p (λ k e. let z : true ≡ false = cc (rw (k, e) at n) in absurd (true≢false z))
     (λ k e. rw (k, e) (admit-mine u h ps (rw (k, e) at n) (rw k at a))) (λ k. rw (k, eq-eqb u u refl))
 
-admit-other : (v : ℕ) (x : Place) (ps : List Place) → has v x ≡ false → find v (admit x ps) ≡ find v ps
-admit-other v x [] d = refl
-admit-other v x (p ∷ ps) d =
-    byTest (p .taken) (λ k. rw k (ap (λ (o : Option Holdings). cond (eqb v (p .user)) (some (p .holdings)) o) (admit-other v x ps d))) (λ k. rw (k, d))
-
 admit-length : (x : Place) (ps : List Place) → length (admit x ps) ≡ length ps
 admit-length x [] = refl
 admit-length x (p ∷ ps) = byTest (p .taken) (λ k. rw k (ap suc (admit-length x ps))) (λ k. rw k)
@@ -94,10 +81,6 @@ pub give-mine : (u : ℕ) (h : Holdings) (ps : List Place) → shutTo (find u ps
 unfolding give shutTo
 give-mine u h ps s = byFind (find u ps) (λ e. rw e (admit-mine u h ps e (rw e at s))) (λ g e. rw e (put-mine u g h ps e))
 
-pub give-other : (v u : ℕ) (h : Holdings) (ps : List Place) → eqb v u ≡ false → find v (give u h ps) ≡ find v ps
-unfolding give
-give-other v u h ps d = byFind (find u ps) (λ e. rw e (admit-other v (seat u h) ps d)) (λ g e. rw e (put-other v u (seat u h) ps d d))
-
 pub give-length : (u : ℕ) (h : Holdings) (ps : List Place) → length (give u h ps) ≡ length ps
 unfolding give
 give-length u h ps = byFind (find u ps) (λ e. rw e (admit-length (seat u h) ps)) (λ g e. rw e (put-length u (seat u h) ps))
@@ -105,10 +88,6 @@ give-length u h ps = byFind (find u ps) (λ e. rw e (admit-length (seat u h) ps)
 pub leave-mine : (u : ℕ) (ps : List Place) → count u ps ≤ 1 → find u (leave u ps) ≡ none
 unfolding leave
 leave-mine u ps c = put-vacant u ps c
-
-pub leave-other : (v u : ℕ) (ps : List Place) → eqb v u ≡ false → find v (leave u ps) ≡ find v ps
-unfolding leave
-leave-other v u ps d = put-other v u vacant ps d refl
 
 pub leave-length : (u : ℕ) (ps : List Place) → length (leave u ps) ≡ length ps
 unfolding leave

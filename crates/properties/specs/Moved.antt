@@ -1,65 +1,65 @@
--- Demand 2: a block moved by RDK then loads as before: it is the user who moved it who loads it, by the function that he moved it by.
-use mathlib.Core.Path.{_≡_, refl, sym, ap, ap₂, _∙_}
-use mathlib.Core.Bool.{Bool, true, false, not}
-use mathlib.Core.Option.{Option, some}
+-- Demand 2, of a block moved from the old interchange key to the current one: RDK's block gives the key that the old block gave, to sender and receiver alike.
+use mathlib.Core.Path.{_≡_, refl, ap, ap₂, _∙_, subst}
 use Prim.Native.Nat.{ℕ}
-use native.Mathlib.Omega.{arith}
-use lib.Dec.{eqb}
-use Rattle.cipher.specs.Cipher.{enciphered, deciphered}
+use Rattle.cipher.specs.Cipher.{Octets, enciphered, deciphered}
 use Rattle.cipher.proofs.Promise.{deciphered-enciphered, deciphered-octets}
-use Rattle.state.specs.declared.Holdings.{Holdings}
-use Rattle.state.specs.State.{Bytes, find, seatOf, keyAt}
+use Rattle.keys.specs.Keys.{parityOf, notarized}
+use Rattle.keys.proofs.Laws.{parity-octets, notarized-alike}
+use Rattle.state.specs.State.{Bytes}
 use Rattle.rules.specs.World.{World}
-use Rattle.rules.specs.Sides.{functionOf, pairKey, withKey, wrongPair}
-use Rattle.rules.specs.Refusals.{bigPair}
-use Rattle.rules.specs.Commands.{by, RDK, LDK, refusals, effect}
-use Rattle.rules.specs.Step.{step, numberOf}
-use Rattle.properties.specs.Steps.{Accepted, listOf, accepted-first, done-step, next, fails, not-false, give-own}
+use Rattle.rules.specs.Commands.{by, GDK, RDK}
+use Rattle.rules.specs.Step.{step}
+use Rattle.properties.specs.Held.{IsActive, IsSmall, as-t, as-r, as-s, HasCurrent, currentKey, HasOld, oldKey, Alike, Gives}
+use Rattle.properties.specs.Loads.{Means, means-t, means-r, means-s, gave, gives, gdk, rdk}
+use Rattle.properties.specs.Demand2.{Recovered, Generates, sealed-recovered}
 
--- the user u moves the block b, of the interchange p, of the pair that the function f makes of u and q, in the world F
-module _ (F : World) (u q p f : ℕ) (b out : Bytes) (done : Accepted F u (RDK q p f b) out) where
-  pub moved : Bytes
-  moved = step F (by u (RDK q p f b)) out .answered .block
+-- ---- the statement
 
-  -- the key that the block held under the old interchange key
-  pub key : Bytes
-  key = deciphered (pairKey (functionOf f) (keyAt p (F .facility .«old_keys») .key .0) u q) b
+-- the block b of the pair (i, j), moved at F, where the interchange p has both its keys: by the sender as t, by the receiver as r, by who is both as s
+module _ (F : World) (p i j : ℕ) (b : Bytes) where
+  -- the reply is eight bytes, which give the key k under the current key
+  abbrev pub Moves : (f u v : ℕ) → (k out : Bytes) → Type 0
+  Moves f u v k out = Gives F out (step F (by u (RDK v p f b)) out) × Recovered F p i j (step F (by u (RDK v p f b)) out .answered .block) k
 
-  first : listOf F u (RDK q p f b) out ≡ 0
-  first = accepted-first F u (RDK q p f b) out done
+  pub record Moved (k : Bytes) : Type 0 where
+    pub by-sender : (out : Bytes) → (i ≡ j → ⊥) → IsActive i F → Moves as-t i j k out
+    pub by-receiver : (out : Bytes) → (i ≡ j → ⊥) → IsActive j F → Moves as-r j i k out
+    pub by-himself : (out : Bytes) → i ≡ j → IsActive i F → Moves as-s i j k out
 
-  moved-is : moved ≡ enciphered (pairKey (functionOf f) (keyAt p (F .facility .«current_keys») .key .0) u q) key
-  unfolding moved key effect
-  moved-is = ap (λ r. r .answered .block) (done-step F u (RDK q p f b) out first)
+  -- ---- the proof
 
-  -- wherever u is active and the interchange's current key is F's, the moved block loads that key: for the same user u, naming the same q, by the same function f
-  module _ (G : World) (h : Holdings) (out′ : Bytes) (active : find u (G .facility .places) ≡ some h)
-      (current : keyAt p (G .facility .«current_keys») ≡ keyAt p (F .facility .«current_keys»)) where
-    verdict : listOf G u (LDK q p f moved) out′ ≡ 0
-    unfolding refusals seatOf
-    verdict =
-        let a = next (bigPair u q) 1 _ (λ z. omega arith) first in
-        let c = next _ 3 _ (λ z. omega arith) (a .1) in
-        let d = next (wrongPair (functionOf f) (eqb q u)) 5 _ (λ z. omega arith) (c .1) in
-        let e = next _ 6 _ (λ z. omega arith) (d .1) in
-        let g = next _ 6 0 (λ z. omega arith) (e .1) in
-        fails (bigPair u q) 1 _ (a .0)
-        (fails _ 3 _ (ap (λ s. not (seatOf s .active)) active)
-        (fails _ 5 _ (d .0)
-        (fails _ 6 0 (ap (λ k. not (k .present)) current ∙ g .0) refl)))
+  module _ (si : IsSmall i) (sj : IsSmall j) (current : HasCurrent p F) (old : HasOld p F)
+      (k : Bytes) (is : deciphered (notarized (oldKey p F) i j) b ≡ k) where
+    eight : Octets k
+    eight = subst Octets is (deciphered-octets (notarized (oldKey p F) i j) b)
 
-    opened : deciphered (pairKey (functionOf f) (keyAt p (G .facility .«current_keys») .key .0) u q) moved ≡ key
-    unfolding key
-    opened =
-        ap₂ deciphered (ap (λ k. pairKey (functionOf f) (k .key .0) u q) current) moved-is
-        ∙ deciphered-enciphered (pairKey (functionOf f) (keyAt p (F .facility .«current_keys») .key .0) u q) key (deciphered-octets (pairKey (functionOf f) (keyAt p (F .facility .«old_keys») .key .0) u q) b)
+    moves : (f u v : ℕ) → IsSmall u → IsSmall v → IsActive u F → Means f u v i j → (out : Bytes) → Moves f u v k out
+    moves f u v su sv a m out =
+        let e : step F (by u (RDK v p f b)) out ≡ gave (enciphered (notarized (currentKey p F) i j) k) out F =
+        rdk F u out a su v p sv current f i j m b old ∙ ap (λ (x : Bytes). gave (enciphered (notarized (currentKey p F) i j) x) out F) is in
+        (gives F out _ e, sealed-recovered F p i j si sj _ k eight (ap (λ r. r .answered .block) e))
 
-    pub loads-as-before : Accepted G u (LDK q p f moved) out′
-        × (find u (step G (by u (LDK q p f moved)) out′ .world .facility .places) ≡ some (withKey (functionOf f) (record { 0 = key }) h))
-    unfolding effect seatOf
-    loads-as-before = (
-      ap (λ r. numberOf (r .answered .answer)) (done-step G u (LDK q p f moved) out′ verdict),
-      ap (λ r. find u (r .world .facility .places)) (done-step G u (LDK q p f moved) out′ verdict)
-          ∙ give-own u h _ (G .facility .places) active
-          ∙ ap₂ (λ (k : Bytes) (s : Option Holdings). some (withKey (functionOf f) (record { 0 = k }) (seatOf s .holdings))) opened active,
-    )
+    moved-is : Moved k
+    moved-is =
+        record {
+          by-sender = λ out n a. moves as-t i j si sj a (means-t i j n) out;
+          by-receiver = λ out n a. moves as-r j i sj si a (means-r i j n) out;
+          by-himself = λ out e a. moves as-s i j si sj a (means-s i j e) out;
+        }
+
+-- ---- the theorems
+
+-- whatever the block: it keeps the key that it has under the old interchange key
+pub moved : (F : World) (p i j : ℕ) (b : Bytes) → IsSmall i → IsSmall j → HasCurrent p F → HasOld p F
+    → Moved F p i j b (deciphered (notarized (oldKey p F) i j) b)
+moved F p i j b si sj current old = moved-is F p i j b si sj current old _ refl
+
+-- the block of GDK: the given bits with parity set, where the key that was then current (at E, over q) is now the old one
+pub generated-moved : (E F : World) (q p i j : ℕ) (bits out : Bytes) → Generates E i j q bits
+    → HasCurrent p F → HasOld p F → Alike (oldKey p F) (currentKey q E)
+    → Moved F p i j (step E (by i (GDK j q bits)) out .answered .block) (parityOf bits)
+generated-moved E F q p i j bits out x current old alike =
+    let e = ap (λ r. r .answered .block) (gdk E i out (x .active) (x .small-i) j q (x .small-j) (x .current) bits) in
+    moved-is F p i j _ (x .small-i) (x .small-j) current old (parityOf bits)
+    (ap₂ deciphered (notarized-alike (oldKey p F) (currentKey q E) i j alike) e
+    ∙ deciphered-enciphered (notarized (currentKey q E) i j) (parityOf bits) (parity-octets bits (x .random)))
