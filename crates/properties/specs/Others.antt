@@ -57,7 +57,7 @@ carry-other v u d (refused n) w = refl
 carry-other v u d (gives n b) w = refl
 carry-other v u d (keeps h) w = give-other v u h (w .facility .places) d
 carry-other v u d leaves w = leave-other v u (w .facility .places) d
-carry-other v u d (enters b p) w = refl
+carry-other v u d (enters password) w = refl
 carry-other v u d (writes b h) w = give-other v u h (w .facility .places) d
 
 carry-keys : (u : ℕ) (e : Effect) (w : World) → carry u e w .facility .«current_keys» ≡ w .facility .«current_keys»
@@ -65,7 +65,7 @@ carry-keys u (refused n) w = refl
 carry-keys u (gives n b) w = refl
 carry-keys u (keeps h) w = refl
 carry-keys u leaves w = refl
-carry-keys u (enters b p) w = refl
+carry-keys u (enters password) w = refl
 carry-keys u (writes b h) w = refl
 
 module _ (w : World) (u : ℕ) (c : UserCommand) (out : Bytes) where
