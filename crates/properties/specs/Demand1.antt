@@ -29,7 +29,7 @@ holds n [] = false
 holds n (r ∷ rs) = cond (eqb n (r .number)) (cond (r .applies) true (holds n rs)) (holds n rs)
 
 -- the numbers rise, from m
-abbrev rising : ℕ → List Test → Bool
+abbrev pub rising : ℕ → List Test → Bool
 rising m [] = true
 rising m (r ∷ rs) = cond (leb m (r .number)) (rising (r .number) rs) false
 
@@ -76,7 +76,7 @@ module _ (m : ℕ) (r : Test) (rs : List Test) (p : 1 ≤ m) (a : (m ≤ r .numb
     clear = λ z. ih .clear (λ k. sym (skip r rs k f) ∙ z k);
   })
 
-is-lowest : (m : ℕ) (l : List Test) → 1 ≤ m → rising m l ≡ true → Lowest l (firstOf l)
+pub is-lowest : (m : ℕ) (l : List Test) → 1 ≤ m → rising m l ≡ true → Lowest l (firstOf l)
 is-lowest m [] p h = record { held = λ z. absurd (z refl); least = λ k lt. refl; none = λ z k. refl; clear = λ z. refl }
 is-lowest m (r ∷ rs) p h =
     let a : (m ≤ r .number) × (rising (r .number) rs ≡ true) = above m r rs h in

@@ -14,3 +14,5 @@ pub mod Still
 pub mod SameReply
 pub mod TwoPlaces
 pub mod Performed
+pub mod AllTaken
+pub mod EvenParity
