@@ -1,7 +1,7 @@
 -- "8 all 16 places taken", as the page prints it. The definition's condition is "the issuer has no place, and all are taken" (`shutTo`): its further words
 -- never decide, since for an issuer who has a place 4 comes before 8.
 use mathlib.Core.Path.{_≡_, refl, sym, ap, _∙_, subst}
-use mathlib.Core.Bool.{Bool, true, false, cond, not}
+use mathlib.Core.Bool.{Bool, not}
 use mathlib.Core.Option.{Option, none, some}
 use mathlib.Core.List.{List, [], _∷_}
 use Prim.Native.Nat.{ℕ, suc, _≤_}
@@ -16,7 +16,7 @@ use Rattle.state.specs.State.{Bytes, holders, find, allTaken, shutTo, seatOf, k
 use Rattle.table.specs.Entries.{fits}
 use Rattle.table.specs.Passwords.{big}
 use Rattle.rules.specs.Commands.{RAS, by, World, Test, test, firstOf, own, shutFor, refusals, effect, numberOf, step}
-use Rattle.properties.specs.Steps.{listOf, reply-first}
+use Rattle.properties.specs.Steps.{reply-first}
 use Rattle.properties.specs.Demand1.{Lowest, is-lowest}
 use Rattle.properties.specs.Passwords.{authenticates}
 
@@ -54,7 +54,8 @@ sixteen-taken w n = taken-counted (w .facility .places) ∙ ap (eqb (length (hol
 -- ---- RAS's list
 
 -- where the issuer has a place, it is 4 either way
-four-first : (o : Option Holdings) (ps : List Place) (later : Bool → ℕ) → test (seatOf o .active) 4 (later (shutTo o ps)) ≡ test (seatOf o .active) 4 (later (allTaken ps))
+four-first : (o : Option Holdings) (ps : List Place) (later : Bool → ℕ)
+    → test (seatOf o .active) 4 (later (shutTo o ps)) ≡ test (seatOf o .active) 4 (later (allTaken ps))
 unfolding seatOf shutTo test
 four-first none ps later = refl
 four-first (some h) ps later = refl

@@ -1,7 +1,7 @@
 -- "14 some byte of the entered key has even parity": what EIK tests is this, and the ones of a byte are counted bit by bit.
-use mathlib.Core.Path.{_≡_, refl, sym, ap, ap₂, _∙_, subst}
+use mathlib.Core.Path.{_≡_, refl, subst}
 use mathlib.Core.Bool.{Bool, true, false, cond, not}
-use mathlib.Core.List.{List, [], _∷_}
+use mathlib.Core.List.{[], _∷_}
 use Prim.Native.Nat.{ℕ, _+_, _-_, _*_, _/_, _%_}
 use native.Mathlib.Nat.{div-div-eq-div-mul}
 use native.Mathlib.Omega.{arith}
@@ -12,7 +12,7 @@ use Rattle.keys.specs.Keys.{odd, parityOf}
 use Rattle.keys.proofs.Laws.{odd-is}
 use Rattle.state.specs.State.{Bytes, named}
 use Rattle.table.specs.Passwords.{same}
-use Rattle.rules.specs.Commands.{World, EIK, Test, on, firstOf, numberOf, ofOwn, tests, step}
+use Rattle.rules.specs.Commands.{World, EIK, on, numberOf, ofOwn, tests, step}
 use Rattle.properties.specs.Demand1.{Lowest, demand-1}
 
 -- the number of ones among the eight bits of a byte
@@ -32,7 +32,8 @@ leftOnes s = s / 64 % 2 + s / 32 % 2 + s / 16 % 2 + s / 8 % 2 + s / 4 % 2 + s / 
 
 ones-split : (x : ℕ) → ones x ≡ leftOnes (x / 2) + x % 2
 ones-split x =
-    rw (div-div-eq-div-mul x 2 64, div-div-eq-div-mul x 2 32, div-div-eq-div-mul x 2 16, div-div-eq-div-mul x 2 8, div-div-eq-div-mul x 2 4, div-div-eq-div-mul x 2 2)
+    let halved = div-div-eq-div-mul x 2 in
+    rw (halved 64, halved 32, halved 16, halved 8, halved 4, halved 2)
 
 -- x is its left bits with the last one set by n exactly if n and its own last bit make an odd number
 last-bit : (x n o m : ℕ) → x / 2 * 2 + (1 - n % 2) ≡ o → m ≡ n + x % 2 → eqb x o ≡ not (eqb (m % 2) 0)
@@ -61,5 +62,6 @@ pub fourteen-as-printed : (w : World) (i : ℕ) (k out : Bytes)
     → Lowest (on 6 (not (named i)) ∷ on 7 (ofOwn i (w .facility .due) false) ∷ on 14 (someEven k) ∷ []) (numberOf (step w (EIK i k) out .answered .answer))
 unfolding tests
 fourteen-as-printed w i k out =
-    subst (λ (b : Bool). Lowest (on 6 (not (named i)) ∷ on 7 (ofOwn i (w .facility .due) false) ∷ on 14 b ∷ []) (numberOf (step w (EIK i k) out .answered .answer)))
-    (even-found k) (demand-1 w (EIK i k) out .lowest)
+    let reply = numberOf (step w (EIK i k) out .answered .answer) in
+    subst (λ (b : Bool). Lowest (on 6 (not (named i)) ∷ on 7 (ofOwn i (w .facility .due) false) ∷ on 14 b ∷ []) reply) (even-found k)
+    (demand-1 w (EIK i k) out .lowest)

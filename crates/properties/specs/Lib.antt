@@ -16,3 +16,5 @@ pub mod TwoPlaces
 pub mod Performed
 pub mod AllTaken
 pub mod EvenParity
+pub mod Replaced
+pub mod Nobodys
