@@ -51,7 +51,7 @@ put-twice u a b (p ∷ ps) =
 
 -- ---- the length of the joined data
 
-good : (n : ℕ) → (n ≡ 0 → ⊥) → n ≤ 32768 → n % 8 ≡ 0 → badBlocks n ≡ false
+pub good : (n : ℕ) → (n ≡ 0 → ⊥) → n ≤ 32768 → n % 8 ≡ 0 → badBlocks n ≡ false
 unfolding badBlocks badLength
 good n z l b = rw (ne-eqb n 0 z, le-ltb 32768 n l, eq-eqb (n % 8) 0 b)
 

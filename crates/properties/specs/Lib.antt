@@ -18,3 +18,4 @@ pub mod AllTaken
 pub mod EvenParity
 pub mod Replaced
 pub mod Nobodys
+pub mod TwoCalls
