@@ -3,7 +3,7 @@ use mathlib.Core.Path.{_≡_, sym, ap, _∙_}
 use mathlib.Core.List.{List, _++_}
 use Prim.Native.Nat.{ℕ}
 use Rattle.printout.specs.Page.{Page, entered, then}
-use Rattle.rules.specs.Commands.{numberOf}
+use Rattle.rules.specs.Step.{numberOf}
 use Rattle.session.specs.Run.{Answered, lineOf}
 use Rattle.talk.specs.Replies.{wordsOf}
 

@@ -1,7 +1,7 @@
 // An answer's parts: its number, and the bytes returned or, for a mode, written.
 ghost use mathlib.Core.Path.{_≡_};
 ghost use lib.ListN.{length};
-ghost use Rattle.rules.specs.Commands.{numberOf};
+ghost use Rattle.rules.specs.Step.{numberOf};
 ghost use Rattle.printout.specs.Page.{page, entered};
 ghost use Rattle.session.specs.Run.{shownOf};
 

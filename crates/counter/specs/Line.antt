@@ -6,7 +6,7 @@ use Prim.Native.Nat.{ℕ, _+_}
 use lib.ListN.{length, take}
 use Rattle.printout.specs.Page.{page, entered}
 use Rattle.state.specs.State.{Bytes}
-use Rattle.rules.specs.Commands.{World}
+use Rattle.rules.specs.World.{World}
 use Rattle.reader.specs.declared.Line.{Line}
 use Rattle.clerk.specs.Filled.{put-over}
 use Rattle.clerk.specs.Heard.{heard}

@@ -12,7 +12,9 @@ use Rattle.state.specs.declared.Facility.{Facility}
 use Rattle.state.specs.State.{Bytes}
 use Rattle.rules.specs.declared.Answer.the-variants.{Refused}
 use Rattle.rules.specs.declared.Outcome.{Outcome}
-use Rattle.rules.specs.Commands.{World, Result, result, Told, plain, refusedOf, left, over as world}
+use Rattle.rules.specs.World.{World, over as world}
+use Rattle.rules.specs.Step.{Result, result, Told, plain}
+use Rattle.rules.specs.Outcomes.{refusedOf, left}
 use Rattle.session.specs.Run.{answered, answerTo, shownOf, Ran, goOn, ranFrom, turn, over}
 use Rattle.clerk.specs.Replies.{reply}
 use Rattle.counter.specs.Kept.{Books, books, next, keptBytes, endMarked, booked, allBooked}

@@ -1,7 +1,7 @@
 // A line served: heard with the answers kept so far, put into its bytes, and these carried out.
 ghost use mathlib.Core.Path.{_≡_};
 ghost use lib.ListN.{length, take};
-ghost use Rattle.rules.specs.Commands.{over};
+ghost use Rattle.rules.specs.World.{over};
 ghost use Rattle.printout.specs.Page.{page};
 ghost use Rattle.counter.specs.Kept.{books};
 ghost use Rattle.counter.specs.Service.{carried};

@@ -1,7 +1,8 @@
 // A piece of stream carried out, at the desk with its answers in words.
 ghost use mathlib.Core.Path.{_≡_};
 ghost use lib.ListN.{length};
-ghost use Rattle.rules.specs.Commands.{left, over};
+ghost use Rattle.rules.specs.World.{over};
+ghost use Rattle.rules.specs.Outcomes.{left};
 ghost use Rattle.printout.specs.Page.{page};
 ghost use Rattle.counter.specs.Kept.{next, books};
 ghost use Rattle.counter.specs.Service.{turned, turnFor, turnAt, carried, carriedOut};

@@ -8,7 +8,9 @@ use borrow.Author.Tests.{ne-eqb}
 use Rattle.stream.specs.declared.Request.{Request}
 use Rattle.state.specs.State.{Bytes}
 use Rattle.rules.specs.declared.Answer.the-variants.{Refused}
-use Rattle.rules.specs.Commands.{Command, World, Result, result, plain, step}
+use Rattle.rules.specs.World.{World}
+use Rattle.rules.specs.Commands.{Command}
+use Rattle.rules.specs.Step.{Result, result, plain, step}
 use Rattle.facility.specs.Requests.{Row, rows, beside, commandOf, carriedOut, performed}
 
 -- T, and n is none of the rows' tags: what is known in the last arm of a match on n, nested as the checker nests it

@@ -9,7 +9,8 @@ use Rattle.stream.specs.declared.Request.{Request}
 use Rattle.state.specs.State.{Bytes}
 use Rattle.rules.specs.declared.Answer.the-variants.{Refused}
 use Rattle.rules.specs.Commands.{RAS, LAU, CPW, GDK, LDK, GIV, LIV, EIV, RDK, mode, DAUT, Command, by, EIK, IPW, RPW, logout}
-use Rattle.rules.specs.Commands.{World, Result, result, plain, step}
+use Rattle.rules.specs.World.{World}
+use Rattle.rules.specs.Step.{Result, result, plain, step}
 
 -- a tag, and its command
 pub record Row : Type 0 where

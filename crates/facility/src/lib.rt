@@ -1,6 +1,7 @@
 // The key notarization facility: any command that the stream can spell, carried out by its tag.
 ghost use mathlib.Core.Path.{_≡_};
-ghost use Rattle.rules.specs.Commands.{left, over};
+ghost use Rattle.rules.specs.World.{over};
+ghost use Rattle.rules.specs.Outcomes.{left};
 ghost use Rattle.facility.specs.Requests.{performed};
 
 use admission::cpw;

@@ -16,13 +16,16 @@ use Rattle.state.specs.declared.Place.{Place}
 use Rattle.state.specs.State.{Bytes, noInterchangeKey, vacant, seat, bare, holders, give, leave, shutTo, seatOf, keyAt, named}
 use Rattle.table.specs.Entries.{fits, idOf, entryIn, entryOf, enterIn, enter}
 use Rattle.table.specs.Passwords.{big, same, sealed, authentic}
-use Rattle.rules.specs.Commands.{UserCommand, RAS, LAU, CPW, GIV, LIV, LDK, mode, World, Told, numberOf, step}
-use Rattle.rules.specs.Commands.{rule, refusals, modeRefusals, effect, test, modeSide, sideFor, functionOf, unknown, wrongPair, withKey, withVector, afterMode, bigPair, badLength, badBlocks}
+use Rattle.rules.specs.World.{World}
+use Rattle.rules.specs.Commands.{UserCommand, RAS, LAU, CPW, GIV, LIV, LDK, mode, refusals, effect}
+use Rattle.rules.specs.Step.{Told, numberOf, step, rule}
+use Rattle.rules.specs.Sides.{modeSide, sideFor, functionOf, unknown, wrongPair, withKey, withVector, afterMode}
+use Rattle.rules.specs.Refusals.{test, bigPair, badLength, badBlocks}
 use Rattle.properties.specs.Single.{Single}
 use Rattle.merging.specs.Ids.{different}
 use Rattle.merging.specs.Demand3.{Request, Lists, Run, users, listOf, alone, here, there, Finished, Merge, done, next, after, gets}
 use Rattle.merging.specs.Places.{single-by}
-use Rattle.merging.specs.Theorem.{demand-3}
+use Rattle.merging.specs.Theorem.{demand-3, commanded}
 
 -- ---- passwords. The cipher is shut, but it promises that deciphering is undone: so a password can be given by its entry
 
@@ -66,11 +69,11 @@ start ps = record {
   table = entry 5 first ++ entry 6 first;
 }
 
-abbrev pub ask : UserCommand → Request
+abbrev pub ask : UserCommand → Request UserCommand
 ask c = record { command = c; output = replicate 9 9 }
 
 -- u comes
-abbrev pub comes : ℕ → Request
+abbrev pub comes : ℕ → Request UserCommand
 comes u = ask (RAS (passwordOf u first))
 
 abbrev pub numbers : List Told → List ℕ
@@ -81,85 +84,85 @@ numbers = map (λ t. numberOf (t .answer))
 abbrev block : Bytes
 block = replicate 8 0
 
-abbrev of5 : List Request
+abbrev of5 : List (Request UserCommand)
 of5 = comes 5 ∷ ask (GIV block) ∷ ask LAU ∷ ask LAU ∷ []
 
-abbrev of6 : List Request
+abbrev of6 : List (Request UserCommand)
 of6 = ask (LIV 0x74 block) ∷ comes 6 ∷ ask (CPW (passwordOf 6 first) (passwordOf 6 second)) ∷ ask LAU ∷ comes 6 ∷ []
 
-abbrev of7 : List Request
+abbrev of7 : List (Request UserCommand)
 of7 = ask (LDK 7 1 0x73 block) ∷ ask (mode Cbce block) ∷ ask (LIV 0x74 block) ∷ ask (mode Cbce block) ∷ ask LAU ∷ []
 
-abbrev lists : Lists
+abbrev lists : Lists UserCommand
 lists = (5, of5) ∷ (6, of6) ∷ (7, of7) ∷ []
 
 abbrev three : World
 three = start (vacant ∷ seat 7 bare ∷ replicate 14 vacant)
 
 -- each list alone
-alone-5 : numbers (gets step three (alone 5 of5) 5) ≡ 0 ∷ 10 ∷ 0 ∷ 3 ∷ []
+alone-5 : numbers (gets commanded three (alone 5 of5) 5) ≡ 0 ∷ 10 ∷ 0 ∷ 3 ∷ []
 unfolding step rule refusals effect test give leave shutTo seatOf keyAt named fits idOf entryIn entryOf big row bare same authentic
 alone-5 = rw (entry-first 5)
 
-alone-6 : numbers (gets step three (alone 6 of6) 6) ≡ 3 ∷ 0 ∷ 0 ∷ 0 ∷ 9 ∷ []
+alone-6 : numbers (gets commanded three (alone 6 of6) 6) ≡ 3 ∷ 0 ∷ 0 ∷ 0 ∷ 9 ∷ []
 unfolding step rule refusals effect test give leave shutTo seatOf keyAt named fits idOf entryIn entryOf enterIn enter big row bare same authentic
 alone-6 = rw (entry-first 6, entry-first 6, entry-second 6, entry-first 6)
 
-alone-7 : numbers (gets step three (alone 7 of7) 7) ≡ 0 ∷ 11 ∷ 0 ∷ 0 ∷ 0 ∷ []
-unfolding step rule refusals modeRefusals modeSide effect test functionOf unknown wrongPair withKey withVector sideFor afterMode bigPair badLength badBlocks give leave shutTo seatOf keyAt named big bare
+alone-7 : numbers (gets commanded three (alone 7 of7) 7) ≡ 0 ∷ 11 ∷ 0 ∷ 0 ∷ 0 ∷ []
+unfolding step rule refusals modeSide effect test functionOf unknown wrongPair withKey withVector sideFor afterMode bigPair badLength badBlocks give leave shutTo seatOf keyAt named big bare
 alone-7 = refl
 
 -- two of the merges: one list after another, and mixed
-abbrev inTurn : Run
+abbrev inTurn : Run UserCommand
 inTurn = alone 7 of7 ++ (alone 5 of5 ++ alone 6 of6)
 
-abbrev mixed : Run
+abbrev mixed : Run UserCommand
 mixed =
     (6, ask (LIV 0x74 block)) ∷ (5, comes 5) ∷ (7, ask (LDK 7 1 0x73 block)) ∷ (6, comes 6) ∷ (5, ask (GIV block)) ∷ (5, ask LAU)
     ∷ (6, ask (CPW (passwordOf 6 first) (passwordOf 6 second))) ∷ (7, ask (mode Cbce block)) ∷ (6, ask LAU) ∷ (7, ask (LIV 0x74 block)) ∷ (7, ask (mode Cbce block))
     ∷ (5, ask LAU) ∷ (6, comes 6) ∷ (7, ask LAU) ∷ []
 
-end : Merge ((5, []) ∷ (6, []) ∷ (7, []) ∷ []) []
+end : Merge UserCommand ((5, []) ∷ (6, []) ∷ (7, []) ∷ []) []
 end = let f : Finished ((5, []) ∷ (6, []) ∷ (7, []) ∷ []) = (refl, (refl, (refl, tt))) in done f
 
-inTurn-merge : Merge lists inTurn
+inTurn-merge : Merge UserCommand lists inTurn
 inTurn-merge =
     next (there (there here)) (next (there (there here)) (next (there (there here)) (next (there (there here)) (next (there (there here))
     (next here (next here (next here (next here
     (next (there here) (next (there here) (next (there here) (next (there here) (next (there here) end)))))))))))))
 
-mixed-merge : Merge lists mixed
+mixed-merge : Merge UserCommand lists mixed
 mixed-merge =
     next (there here) (next here (next (there (there here)) (next (there here) (next here (next here
     (next (there here) (next (there (there here)) (next (there here) (next (there (there here)) (next (there (there here))
     (next here (next (there here) (next (there (there here)) end)))))))))))))
 
 -- the premises are met: so each gets the same in every merge as alone
-module _ (m : Run) (g : Merge lists m) where
+module _ (m : Run UserCommand) (g : Merge UserCommand lists m) where
   single : Single (three .facility .places)
   single = single-by (three .facility .places) refl
 
-  as-alone : (u : ℕ) → gets step three m u ≡ gets step three (alone u (listOf u lists)) u
+  as-alone : (u : ℕ) → gets commanded three m u ≡ gets commanded three (alone u (listOf u lists)) u
   as-alone = demand-3 three refl single lists (refl, (refl, (refl, tt))) (lit≤ tt) m g .0
 
-  any-merge : (numbers (gets step three m 5) ≡ 0 ∷ 10 ∷ 0 ∷ 3 ∷ []) × (numbers (gets step three m 6) ≡ 3 ∷ 0 ∷ 0 ∷ 0 ∷ 9 ∷ []) × (numbers (gets step three m 7) ≡ 0 ∷ 11 ∷ 0 ∷ 0 ∷ 0 ∷ [])
+  any-merge : (numbers (gets commanded three m 5) ≡ 0 ∷ 10 ∷ 0 ∷ 3 ∷ []) × (numbers (gets commanded three m 6) ≡ 3 ∷ 0 ∷ 0 ∷ 0 ∷ 9 ∷ []) × (numbers (gets commanded three m 7) ≡ 0 ∷ 11 ∷ 0 ∷ 0 ∷ 0 ∷ [])
   any-merge = (ap numbers (as-alone 5) ∙ alone-5, ap numbers (as-alone 6) ∙ alone-6, ap numbers (as-alone 7) ∙ alone-7)
 
   -- and it leaves the same table
-  one-table : after step three m .table ≡ after step three inTurn .table
+  one-table : after commanded three m .table ≡ after commanded three inTurn .table
   one-table = demand-3 three refl single lists (refl, (refl, (refl, tt))) (lit≤ tt) m g .1 inTurn inTurn-merge .0
 
 -- the table that it leaves: 7 and 5 have gone when 6 comes
-gone : after step three (alone 7 of7 ++ alone 5 of5) ≡ start (replicate 16 vacant)
-unfolding step rule refusals modeRefusals modeSide effect test functionOf unknown wrongPair withKey withVector sideFor afterMode bigPair badLength badBlocks give leave shutTo seatOf keyAt named fits idOf entryIn entryOf big row bare same authentic
+gone : after commanded three (alone 7 of7 ++ alone 5 of5) ≡ start (replicate 16 vacant)
+unfolding step rule refusals modeSide effect test functionOf unknown wrongPair withKey withVector sideFor afterMode bigPair badLength badBlocks give leave shutTo seatOf keyAt named fits idOf entryIn entryOf big row bare same authentic
 gone = rw (entry-first 5)
 
-changed : after step (start (replicate 16 vacant)) (alone 6 of6) .table ≡ entry 5 first ++ entry 6 second
+changed : after commanded (start (replicate 16 vacant)) (alone 6 of6) .table ≡ entry 5 first ++ entry 6 second
 unfolding step rule refusals effect test give leave shutTo seatOf keyAt named fits idOf entryIn entryOf enterIn enter big row bare same authentic
 changed = rw (entry-first 6, entry-first 6, entry-second 6, entry-first 6)
 
-mixed-table : after step three mixed .table ≡ entry 5 first ++ entry 6 second
-mixed-table = one-table mixed mixed-merge ∙ ap (λ (w : World). after step w (alone 6 of6) .table) gone ∙ changed
+mixed-table : after commanded three mixed .table ≡ entry 5 first ++ entry 6 second
+mixed-table = one-table mixed mixed-merge ∙ ap (λ (w : World). after commanded w (alone 6 of6) .table) gone ∙ changed
 
 -- ---- seventeen: with 15 places held by others, the second of two users finds no place, whom his list alone admits
 
@@ -171,20 +174,20 @@ abbrev nearlyFull : World
 nearlyFull = start (crowd 15 ++ (vacant ∷ []))
 
 -- the two lists that fail, and the merge in which they do
-abbrev two : Request → Lists
+abbrev two : Request UserCommand → Lists UserCommand
 two q = (5, q ∷ []) ∷ (6, comes 6 ∷ []) ∷ []
 
-abbrev then6 : Request → Run
+abbrev then6 : Request UserCommand → Run UserCommand
 then6 q = (5, q) ∷ (6, comes 6) ∷ []
 
-then6-merge : (q : Request) → Merge (two q) (then6 q)
+then6-merge : (q : Request UserCommand) → Merge UserCommand (two q) (then6 q)
 then6-merge q = let f : Finished ((5, []) ∷ (6, []) ∷ []) = (refl, (refl, tt)) in next here (next (there here) (done f))
 
 seventeen : (length (nearlyFull .facility .places) ≡ 16)
     × Single (nearlyFull .facility .places)
     × (different (users (two (comes 5)) ++ holders (nearlyFull .facility .places)) ≡ 17)
-    × (numbers (gets step nearlyFull (then6 (comes 5)) 6) ≡ 8 ∷ [])
-    × (numbers (gets step nearlyFull (alone 6 (listOf 6 (two (comes 5)))) 6) ≡ 0 ∷ [])
+    × (numbers (gets commanded nearlyFull (then6 (comes 5)) 6) ≡ 8 ∷ [])
+    × (numbers (gets commanded nearlyFull (alone 6 (listOf 6 (two (comes 5)))) 6) ≡ 0 ∷ [])
 unfolding step rule refusals effect test give leave shutTo seatOf keyAt named fits idOf entryIn entryOf big row same authentic
 seventeen = (refl, single-by (nearlyFull .facility .places) refl, refl, rw (entry-first 5), rw (entry-first 6))
 
@@ -195,7 +198,7 @@ doubled = start (seat 5 bare ∷ seat 5 bare ∷ crowd 14)
 
 two-places : (length (doubled .facility .places) ≡ 16)
     × (different (users (two (ask LAU)) ++ holders (doubled .facility .places)) ≡ 16)
-    × (numbers (gets step doubled (then6 (ask LAU)) 6) ≡ 0 ∷ [])
-    × (numbers (gets step doubled (alone 6 (listOf 6 (two (ask LAU)))) 6) ≡ 8 ∷ [])
+    × (numbers (gets commanded doubled (then6 (ask LAU)) 6) ≡ 0 ∷ [])
+    × (numbers (gets commanded doubled (alone 6 (listOf 6 (two (ask LAU)))) 6) ≡ 8 ∷ [])
 unfolding step rule refusals effect test give leave shutTo seatOf keyAt named fits idOf entryIn entryOf big row same authentic
 two-places = (refl, refl, rw (entry-first 6), refl)

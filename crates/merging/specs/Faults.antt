@@ -10,9 +10,11 @@ use Rattle.ground.specs.Rows.{row}
 use Rattle.state.specs.declared.Place.{Place}
 use Rattle.state.specs.State.{Bytes, vacant, seat, bare, holders, withPlaces, leave, shutTo, seatOf, keyAt, named}
 use Rattle.table.specs.Entries.{fits, idOf, entryIn, entryOf}
-use Rattle.table.specs.Passwords.{big, same, authentic}
-use Rattle.rules.specs.Commands.{LAU, CPW, Command, by, EIK, IPW, RPW, logout}
-use Rattle.rules.specs.Commands.{Effect, refused, gives, keeps, leaves, enters, writes, World, over, own, shutFor, carry, told, result, rule, refusals, effect, test, step}
+use Rattle.table.specs.Passwords.{big, same, sealed, authentic}
+use Rattle.rules.specs.Commands.{UserCommand, LAU, CPW, Effect, refused, gives, keeps, leaves, enters, writes, refusals, effect}
+use Rattle.rules.specs.World.{World, over, own, shutFor, key1}
+use Rattle.rules.specs.Refusals.{test}
+use Rattle.rules.specs.Step.{carry, told, result, rule, step}
 use Rattle.merging.specs.Ids.{distinct, different}
 use Rattle.merging.specs.Demand3.{Request, Lists, alone, here, there, Finished, Merge, done, next, Step, gets, Undisturbed}
 use Rattle.merging.specs.Theorem.{demand-3}
@@ -20,12 +22,8 @@ use Rattle.merging.specs.Places.{single-by}
 use Rattle.merging.specs.Examples.{passwordOf, first, second, entry-first, entry-second, start, ask, comes, numbers}
 
 -- `step`, where it is told by `shuts` whether RAS finds no place, and users' commands alter the world by `alters`
-abbrev stepBy : (ℕ → World → Bool) → (ℕ → Effect → World → World) → Step
-stepBy shuts alters w (by u c) out = result (told (rule u c out (shuts u w) (own u w)) out) (alters u (rule u c out (shuts u w) (own u w)) w)
-stepBy shuts alters w (EIK i k) out = step w (EIK i k) out
-stepBy shuts alters w (IPW u p) out = step w (IPW u p) out
-stepBy shuts alters w RPW out = step w RPW out
-stepBy shuts alters w (logout u) out = step w (logout u) out
+abbrev stepBy : (ℕ → World → Bool) → (ℕ → Effect → World → World) → Step UserCommand
+stepBy shuts alters w u c out = result (told (rule u c out (shuts u w) (own u w)) out) (alters u (rule u c out (shuts u w) (own u w)) w)
 
 -- ---- LAU frees the first place rather than the issuer's
 
@@ -38,7 +36,7 @@ freesFirst u (refused n) w = carry u (refused n) w
 freesFirst u (gives n b) w = carry u (gives n b) w
 freesFirst u (keeps h) w = carry u (keeps h) w
 freesFirst u leaves w = over (withPlaces (w .facility) (firstFreed (w .facility .places))) (w .table)
-freesFirst u (enters b p) w = carry u (enters b p) w
+freesFirst u (enters password) w = carry u (enters password) w
 freesFirst u (writes b h) w = carry u (writes b h) w
 
 -- ---- CPW writes the first entry rather than the issuer's
@@ -48,7 +46,7 @@ entersFirst u (refused n) w = carry u (refused n) w
 entersFirst u (gives n b) w = carry u (gives n b) w
 entersFirst u (keeps h) w = carry u (keeps h) w
 entersFirst u leaves w = carry u leaves w
-entersFirst u (enters b p) w = over (w .facility) (take 4 (w .table) ++ (b ++ drop 12 (w .table)))
+entersFirst u (enters password) w = over (w .facility) (take 4 (w .table) ++ (sealed (key1 w) u password ++ drop 12 (w .table)))
 entersFirst u (writes b h) w = carry u (writes b h) w
 
 -- ---- RAS looks at the first place, whoever has it, and at no other: 8 where it is taken
@@ -62,31 +60,24 @@ looksAtFirst u w = firstTaken (w .facility .places)
 
 -- ---- with no fault it is `step`, and the demand holds
 
-abbrev faultless : Step
+abbrev faultless : Step UserCommand
 faultless = stepBy shutFor carry
 
-is-step : (w : World) (c : Command) (out : Bytes) → faultless w c out ≡ step w c out
-unfolding step
-is-step w (by u c) out = refl
-is-step w (EIK i k) out = refl
-is-step w (IPW u p) out = refl
-is-step w RPW out = refl
-is-step w (logout u) out = refl
-
 pub no-fault : Undisturbed faultless
-no-fault = subst Undisturbed (sym (fun-ext λ w. fun-ext λ c. fun-ext λ out. is-step w c out)) demand-3
+unfolding step
+no-fault = demand-3
 
 -- ---- what rules them out: 5 and 6 each ask for one thing, 6 is served first, and 5 does not get what he gets alone
 
-end : Merge ((5, []) ∷ (6, []) ∷ []) []
+end : Merge UserCommand ((5, []) ∷ (6, []) ∷ []) []
 end = let f : Finished ((5, []) ∷ (6, []) ∷ []) = (refl, (refl, tt)) in done f
 
-ruled-out : (fault : Step) (ps : List Place) → length ps ≡ 16 → distinct (holders ps) ≡ true → different (5 ∷ 6 ∷ holders ps) ≤ 16 → (of5 of6 : Request) (merged by-himself : ℕ)
+ruled-out : (fault : Step UserCommand) (ps : List Place) → length ps ≡ 16 → distinct (holders ps) ≡ true → different (5 ∷ 6 ∷ holders ps) ≤ 16 → (of5 of6 : Request UserCommand) (merged by-himself : ℕ)
     → numbers (gets fault (start ps) ((6, of6) ∷ (5, of5) ∷ []) 5) ≡ merged ∷ []
     → numbers (gets fault (start ps) (alone 5 (of5 ∷ [])) 5) ≡ by-himself ∷ []
     → (merged ≡ by-himself → ⊥) → Undisturbed fault → ⊥
 ruled-out fault ps sixteen single few of5 of6 n k p q d h =
-    let lists : Lists = (5, of5 ∷ []) ∷ (6, of6 ∷ []) ∷ [] in
+    let lists : Lists UserCommand = (5, of5 ∷ []) ∷ (6, of6 ∷ []) ∷ [] in
     let same-answers = h (start ps) sixteen (single-by ps single) lists (refl, (refl, tt)) few ((6, of6) ∷ (5, of5) ∷ []) (next (there here) (next here end)) .0 5 in
     d (head-eq-of-cons-eq (sym p ∙ ap numbers same-answers ∙ q))
 

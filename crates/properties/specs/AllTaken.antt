@@ -15,7 +15,10 @@ use Rattle.state.specs.declared.Place.{Place}
 use Rattle.state.specs.State.{Bytes, holders, find, allTaken, shutTo, seatOf, keyAt}
 use Rattle.table.specs.Entries.{fits}
 use Rattle.table.specs.Passwords.{big}
-use Rattle.rules.specs.Commands.{RAS, by, World, Test, test, firstOf, own, shutFor, refusals, effect, numberOf, step}
+use Rattle.rules.specs.World.{World, own, shutFor}
+use Rattle.rules.specs.Refusals.{Test, test, firstOf}
+use Rattle.rules.specs.Commands.{RAS, by, refusals, effect}
+use Rattle.rules.specs.Step.{numberOf, step}
 use Rattle.properties.specs.Steps.{reply-first}
 use Rattle.properties.specs.Demand1.{Lowest, is-lowest}
 use Rattle.properties.specs.Passwords.{authenticates}

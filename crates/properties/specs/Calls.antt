@@ -15,7 +15,11 @@ use Rattle.cipher.proofs.Promise.{modeVector-after}
 use Rattle.state.specs.declared.Holdings.{Holdings}
 use Rattle.state.specs.State.{Bytes, seat, find, put, give, seatOf, withPlaces}
 use Rattle.table.specs.Passwords.{big}
-use Rattle.rules.specs.Commands.{World, by, mode, step, over, refusals, effect, numberOf, modeSide, afterMode, withVector, lacksVector, badLength, badBlocks}
+use Rattle.rules.specs.World.{World, over, shutFor, own}
+use Rattle.rules.specs.Sides.{modeSide, afterMode, withVector, lacksVector}
+use Rattle.rules.specs.Refusals.{badLength, badBlocks}
+use Rattle.rules.specs.Commands.{by, mode, refusals, effect}
+use Rattle.rules.specs.Step.{step, numberOf}
 use Rattle.rules.proofs.Laws.{good-length, mode-first}
 use Rattle.properties.specs.Steps.{Accepted, listOf, accepted-first, done-step, next, fails}
 
@@ -38,7 +42,7 @@ module _ (w : World) (u : ℕ) (m : Mode) (d out : Bytes) (h : Holdings) (active
   pub conditions : Accepted w u (mode m d) out → Conditions
   unfolding refusals seatOf
   conditions done =
-      let a = next _ 1 _ (λ q. omega arith) (sym (mode-first m u d (length out) _) ∙ accepted-first w u (mode m d) out done) in
+      let a = next _ 1 _ (λ q. omega arith) (sym (mode-first m u d (length out) (shutFor u w) (own u w)) ∙ accepted-first w u (mode m d) out done) in
       let b = next _ 3 _ (λ q. omega arith) (a .1) in
       let c = next _ 10 _ (λ q. omega arith) (b .1) in
       let e = next _ 11 _ (λ q. omega arith) (c .1) in
@@ -55,7 +59,7 @@ module _ (w : World) (u : ℕ) (m : Mode) (d out : Bytes) (h : Holdings) (active
   verdict : Conditions → listOf w u (mode m d) out ≡ 0
   unfolding refusals seatOf
   verdict c =
-      mode-first m u d (length out) _
+      mode-first m u d (length out) (shutFor u w) (own u w)
       ∙ fails (big u) 1 _ (c .small)
       (fails _ 3 _ (ap (λ s. not (seatOf s .active)) active)
       (fails _ 10 _ (ap (λ s. not (modeSide m (seatOf s .holdings) .key .present)) active ∙ c .key)

@@ -17,8 +17,10 @@ use Rattle.cipher.proofs.Promise.{modeText-length}
 use Rattle.ground.specs.Search.{byTest}
 use Rattle.state.specs.State.{Bytes}
 use Rattle.rules.specs.declared.Answer.the-variants.{Done, Refused}
-use Rattle.rules.specs.Commands.{UserCommand, RAS, LAU, CPW, GDK, LDK, GIV, LIV, EIV, RDK, mode, DAUT, Command, by, EIK, IPW, RPW, logout}
-use Rattle.rules.specs.Commands.{Test, test, firstOf, World, Own, refused, told, plain, numberOf, Result, result, badBlocks, modeRefusals, refusals, effect, rule, tests, step, stepBy, shutFor, own, carry, settled}
+use Rattle.rules.specs.Commands.{UserCommand, RAS, LAU, CPW, GDK, LDK, GIV, LIV, EIV, RDK, mode, DAUT, Command, by, EIK, IPW, RPW, logout, refused, refusals, effect, tests}
+use Rattle.rules.specs.World.{World, Own, shutFor, own}
+use Rattle.rules.specs.Refusals.{Test, test, firstOf, badBlocks}
+use Rattle.rules.specs.Step.{told, plain, numberOf, Result, result, rule, step, stepBy, carry, settled}
 use Rattle.rules.proofs.Laws.{good-blocks}
 
 -- ---- a list of tests
@@ -142,7 +144,7 @@ module _ (u : ℕ) (d out : Bytes) (shut : Bool) (o : Own) where
   none-holds m h z = is-lowest 1 (refusals u (mode m d) (length out) shut o) (omega arith) h .none z
 
   mode-sound : (m : Mode) → Sound u (mode m d) out shut o
-  unfolding refusals modeRefusals effect
+  unfolding refusals effect
   mode-sound Ecbe = (refl, refl, λ z. let n = none-holds Ecbe refl z in fits Ecbe _ _ (unless _ (n 12)) (unless _ (n 13)))
   mode-sound Ecbd = (refl, refl, λ z. let n = none-holds Ecbd refl z in fits Ecbd _ _ (unless _ (n 12)) (unless _ (n 13)))
   mode-sound Cbce = (refl, refl, λ z. let n = none-holds Cbce refl z in fits Cbce _ _ (unless _ (n 12)) (unless _ (n 13)))
@@ -255,14 +257,14 @@ numbers l = map (λ (r : Test). r .number) l
 abbrev Printed : List Test → List ℕ → Type 0
 Printed l p = (numbers l ≡ p) × (among 16 p ≡ false) × (among 17 p ≡ false) × (upTo 99 p ≡ true)
 
-mode-printed : (m : Mode) (u : ℕ) (d : Bytes) (room : ℕ) (o : Own) → Printed (modeRefusals m u d room o) (modePage m)
-unfolding modeRefusals
-mode-printed Ecbe u d room o = (refl, refl, refl, refl)
-mode-printed Ecbd u d room o = (refl, refl, refl, refl)
-mode-printed Cbce u d room o = (refl, refl, refl, refl)
-mode-printed Cbcd u d room o = (refl, refl, refl, refl)
-mode-printed Cfbe u d room o = (refl, refl, refl, refl)
-mode-printed Cfbd u d room o = (refl, refl, refl, refl)
+mode-printed : (m : Mode) (u : ℕ) (d : Bytes) (room : ℕ) (shut : Bool) (o : Own) → Printed (refusals u (mode m d) room shut o) (modePage m)
+unfolding refusals
+mode-printed Ecbe u d room shut o = (refl, refl, refl, refl)
+mode-printed Ecbd u d room shut o = (refl, refl, refl, refl)
+mode-printed Cbce u d room shut o = (refl, refl, refl, refl)
+mode-printed Cbcd u d room shut o = (refl, refl, refl, refl)
+mode-printed Cfbe u d room shut o = (refl, refl, refl, refl)
+mode-printed Cfbd u d room shut o = (refl, refl, refl, refl)
 
 printed : (c : Command) (w : World) (out : Bytes) → Printed (tests c w out) (page c)
 unfolding tests refusals
@@ -275,7 +277,7 @@ printed (by u (GIV b)) w out = (refl, refl, refl, refl)
 printed (by u (LIV f b)) w out = (refl, refl, refl, refl)
 printed (by u (EIV b)) w out = (refl, refl, refl, refl)
 printed (by u (RDK p i f b)) w out = (refl, refl, refl, refl)
-printed (by u (mode m d)) w out = mode-printed m u d (length out) (own u w)
+printed (by u (mode m d)) w out = mode-printed m u d (length out) (shutFor u w) (own u w)
 printed (by u (DAUT f d)) w out = (refl, refl, refl, refl)
 printed (EIK i k) w out = (refl, refl, refl, refl)
 printed (IPW u p) w out = (refl, refl, refl, refl)

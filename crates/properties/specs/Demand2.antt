@@ -16,7 +16,11 @@ use Rattle.state.specs.declared.Holdings.{Holdings}
 use Rattle.state.specs.State.{Bytes, find, seatOf, keyAt}
 use Rattle.rules.specs.declared.Function.the-variants.{Transmit, Receive, Both}
 use Rattle.table.specs.Passwords.{big}
-use Rattle.rules.specs.Commands.{World, by, GDK, LDK, step, refusals, effect, numberOf, functionOf, wrongPair, pairKey, withKey, bigPair}
+use Rattle.rules.specs.World.{World}
+use Rattle.rules.specs.Sides.{functionOf, wrongPair, pairKey, withKey}
+use Rattle.rules.specs.Refusals.{bigPair}
+use Rattle.rules.specs.Commands.{by, GDK, LDK, refusals, effect}
+use Rattle.rules.specs.Step.{step, numberOf}
 use Rattle.properties.specs.Steps.{Accepted, listOf, accepted-first, done-step, next, fails, not-false, pair-small, small-pair, give-own}
 
 -- the sender i generates a key from the bits for the receiver j over the interchange p, in the world F

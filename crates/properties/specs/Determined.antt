@@ -4,7 +4,9 @@ use mathlib.Core.List.{[]}
 use Rattle.state.specs.declared.Facility.{Facility}
 use Rattle.rules.specs.declared.Outcome.{Outcome}
 use Rattle.state.specs.State.{Bytes}
-use Rattle.rules.specs.Commands.{Command, Result, left, Steps, StepsTable, StepsOutput}
+use Rattle.rules.specs.Commands.{Command}
+use Rattle.rules.specs.Step.{Result}
+use Rattle.rules.specs.Outcomes.{left, Steps, StepsTable, StepsOutput}
 
 outcome : Result → Outcome
 outcome x = record { state = x .world .facility; answer = x .answered .answer; block = x .answered .block }

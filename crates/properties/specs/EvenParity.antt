@@ -12,7 +12,10 @@ use Rattle.keys.specs.Keys.{odd, parityOf}
 use Rattle.keys.proofs.Laws.{odd-is}
 use Rattle.state.specs.State.{Bytes, named}
 use Rattle.table.specs.Passwords.{same}
-use Rattle.rules.specs.Commands.{World, EIK, on, numberOf, ofOwn, tests, step}
+use Rattle.rules.specs.World.{World}
+use Rattle.rules.specs.Refusals.{on, ofOwn}
+use Rattle.rules.specs.Commands.{EIK, tests}
+use Rattle.rules.specs.Step.{numberOf, step}
 use Rattle.properties.specs.Demand1.{Lowest, demand-1}
 
 -- the number of ones among the eight bits of a byte

@@ -17,7 +17,11 @@ use Rattle.cipher.proofs.Promise.{modeText-join, modeVector-join}
 use Rattle.state.specs.declared.Holdings.{Holdings}
 use Rattle.state.specs.declared.Place.{Place}
 use Rattle.state.specs.State.{Bytes, has, seat, find, put, withPlaces}
-use Rattle.rules.specs.Commands.{World, by, mode, step, over, modeSide, afterMode, withVector, badLength, badBlocks}
+use Rattle.rules.specs.World.{World, over}
+use Rattle.rules.specs.Sides.{modeSide, afterMode, withVector}
+use Rattle.rules.specs.Refusals.{badLength, badBlocks}
+use Rattle.rules.specs.Commands.{by, mode}
+use Rattle.rules.specs.Step.{step}
 use Rattle.rules.proofs.Laws.{good-blocks}
 use Rattle.properties.specs.Steps.{Accepted, put-own}
 use Rattle.properties.specs.Calls.{vectorOf, held, Conditions, conditions, accepted, left-world, key-stays, vector-left, some-bytes}

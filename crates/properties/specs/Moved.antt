@@ -9,7 +9,11 @@ use Rattle.cipher.specs.Cipher.{enciphered, deciphered}
 use Rattle.cipher.proofs.Promise.{deciphered-enciphered, deciphered-octets}
 use Rattle.state.specs.declared.Holdings.{Holdings}
 use Rattle.state.specs.State.{Bytes, find, seatOf, keyAt}
-use Rattle.rules.specs.Commands.{World, by, RDK, LDK, step, refusals, effect, numberOf, functionOf, pairKey, withKey, bigPair, wrongPair}
+use Rattle.rules.specs.World.{World}
+use Rattle.rules.specs.Sides.{functionOf, pairKey, withKey, wrongPair}
+use Rattle.rules.specs.Refusals.{bigPair}
+use Rattle.rules.specs.Commands.{by, RDK, LDK, refusals, effect}
+use Rattle.rules.specs.Step.{step, numberOf}
 use Rattle.properties.specs.Steps.{Accepted, listOf, accepted-first, done-step, next, fails, not-false, give-own}
 
 -- the user u moves the block b, of the interchange p, of the pair that the function f makes of u and q, in the world F

@@ -12,14 +12,16 @@ use borrow.Author.Tests.{eqb-true, ne-eqb, lt-ltb, ltb-false}
 use Rattle.ground.specs.Search.{byTest}
 use Rattle.ground.specs.Rows.{row}
 use Rattle.state.specs.declared.Facility.{Facility}
-use Rattle.state.specs.State.{Bytes, keyAt}
+use Rattle.state.specs.State.{Bytes}
 use Rattle.table.specs.Entries.{freeId, fits, idOf, entryOf, enrolled}
 use Rattle.table.specs.Passwords.{big, sealed}
 use Rattle.table.specs.Located.{idAt}
 use Rattle.table.proofs.Laws.{sealed-eight}
 use Rattle.rules.specs.declared.Answer.the-variants.{Done, Refused}
-use Rattle.rules.specs.Commands.{UserCommand, RAS, LAU, CPW, GDK, LDK, GIV, LIV, EIV, RDK, mode, DAUT, Command, by, EIK, IPW, RPW, logout}
-use Rattle.rules.specs.Commands.{Own, test, firstOf, bigPair, Effect, refused, gives, keeps, leaves, enters, writes, refusals, effect, ruled, rule, World, over, own, carry, told, plain, Result, result, shutFor, ruleIn, stepBy, lacksEntry, outOfTurn, undue, keyed, tests, settled, step}
+use Rattle.rules.specs.Commands.{UserCommand, RAS, LAU, CPW, GDK, LDK, GIV, LIV, EIV, RDK, mode, DAUT, Command, by, EIK, IPW, RPW, logout, Effect, refused, gives, keeps, leaves, enters, writes, refusals, effect, undue, keyed, tests}
+use Rattle.rules.specs.World.{Own, World, over, own, shutFor, key1}
+use Rattle.rules.specs.Refusals.{test, firstOf, bigPair, lacksEntry, outOfTurn}
+use Rattle.rules.specs.Step.{ruled, rule, carry, told, plain, Result, result, ruleIn, stepBy, settled, step}
 use Rattle.rules.proofs.Laws.{mode-first}
 use Rattle.properties.specs.Steps.{next}
 use Rattle.properties.specs.Tables.{enter-size, enrolled-size}
@@ -44,7 +46,7 @@ first-1 u (GIV b) room shut o e = rw e
 first-1 u (LIV f b) room shut o e = rw e
 first-1 u (EIV b) room shut o e = rw e
 first-1 u (RDK p i f b) room shut o e = rw e
-first-1 u (mode m d) room shut o e = mode-first m u d room o ∙ rw e
+first-1 u (mode m d) room shut o e = mode-first m u d room shut o ∙ rw e
 first-1 u (DAUT f d) room shut o e = rw e
 
 refused-1 : (w : World) (u : ℕ) (c : UserCommand) (out : Bytes) → big u ≡ true → ruleIn w u c out ≡ refused 1
@@ -96,8 +98,10 @@ module _ (f : Facility) (t : Bytes) (k : ℕ) (there : k < length t / 12) (old :
   carried u s (gives n b) out = refl
   carried u s (keeps h) out = refl
   carried u s leaves out = refl
-  carried u s (enters b p) out =
-      ap (λ (x : Bytes). result (plain Done out) (over f x)) (same-enter e twelve k t there u b p (not-user u _ s new) (not-user u _ s old))
+  carried u s (enters password) out =
+      let b = sealed (key1 (over f t)) u password in
+      ap (λ (x : Bytes). result (plain Done out) (over f x))
+      (same-enter e twelve k t there u b (sealed-eight _ u password) (not-user u _ s new) (not-user u _ s old))
   carried u s (writes b h) out = refl
 
   by-user : (u : ℕ) (c : UserCommand) (out : Bytes) → stepBy (over f t′) u c out ≡ beside k e (stepBy (over f t) u c out)
@@ -137,7 +141,7 @@ module _ (f : Facility) (t : Bytes) (k : ℕ) (there : k < length t / 12) (old :
   matches-nobody (EIK i b) out =
       by-officer (firstOf (tests (EIK i b) (over f t) out)) (firstOf (tests (EIK i b) (over f t′) out)) (keyed i b f) t t′ out refl (λ z. refl)
   matches-nobody (IPW u p) out =
-      let b = sealed (keyAt 1 (f .«current_keys») .key .0) u p in
+      let b = sealed (key1 (over f t)) u p in
       by-officer (firstOf (tests (IPW u p) (over f t) out)) _ f (enrolled u b t) (enrolled u b t′) out (ipw-number u p out)
       (λ z. let s = ipw-small u p out z in
       same-enrolled e twelve k t there u b (sealed-eight _ u p) (not-user u _ s new) (not-user u _ s old) (not-free _ new) (not-free _ old))
@@ -158,7 +162,7 @@ carried-length w u (refused n) = refl
 carried-length w u (gives n b) = refl
 carried-length w u (keeps h) = refl
 carried-length w u leaves = refl
-carried-length w u (enters b p) = enter-size u b (w .table) p
+carried-length w u (enters password) = enter-size u (sealed (key1 w) u password) (w .table) (sealed-eight _ u password)
 carried-length w u (writes b h) = refl
 
 pub same-length : (w : World) (c : Command) (out : Bytes) → length (step w c out .world .table) ≡ length (w .table)

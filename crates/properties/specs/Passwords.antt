@@ -18,16 +18,15 @@ use Rattle.state.specs.State.{Bytes, bare, seat, has, find, allTaken, admit, gi
 use Rattle.table.specs.Entries.{fits, entryOf, enrolled}
 use Rattle.table.specs.Passwords.{big, sealed, same, authentic}
 use Rattle.table.proofs.Laws.{sealed-eight}
-use Rattle.rules.specs.Commands.{RAS, CPW, World, by, IPW, tests, refusals, effect, numberOf, step, lacksEntry, over, firstOf}
+use Rattle.rules.specs.World.{World, over, key1}
+use Rattle.rules.specs.Refusals.{lacksEntry, firstOf}
+use Rattle.rules.specs.Commands.{RAS, CPW, by, IPW, tests, refusals, effect}
+use Rattle.rules.specs.Step.{numberOf, step}
 use Rattle.properties.specs.Steps.{Performed, listOf, done-step, settled-first, settled-done, next, fails, not-false, none-not-some}
 use Rattle.properties.specs.Tables.{become, enter-size, enter-own, enrolled-size, enrolled-own}
 use Rattle.properties.specs.Demand1.{not-given}
 
 -- ---- the words
-
--- the facility's own key: current key 1
-abbrev pub key1 : World → Bytes
-key1 w = keyAt 1 (w .facility .«current_keys») .key .0
 
 -- the password p is u's: condition 9 does not hold
 abbrev pub authenticates : World → ℕ → Bytes → Bool

@@ -4,7 +4,10 @@ use mathlib.Core.Option.{Option, none, some}
 use Rattle.stream.specs.declared.Request.{Request}
 use Rattle.state.specs.State.{Bytes}
 use Rattle.rules.specs.declared.Outcome.{Outcome}
-use Rattle.rules.specs.Commands.{Command, World, numberOf, left}
+use Rattle.rules.specs.World.{World}
+use Rattle.rules.specs.Commands.{Command}
+use Rattle.rules.specs.Step.{numberOf}
+use Rattle.rules.specs.Outcomes.{left}
 use Rattle.facility.specs.Requests.{commandOf, carriedOut, performed}
 use Rattle.properties.specs.Determined.{same}
 use Rattle.properties.specs.Demand1.{never-16}

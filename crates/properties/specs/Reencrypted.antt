@@ -21,9 +21,12 @@ use Rattle.table.specs.Entries.{fits, idOf, entryIn, entryOf}
 use Rattle.table.specs.Passwords.{big, sealed, same, authentic, movedEntry, movedIn, moved}
 use Rattle.table.proofs.Laws.{moved-twelve}
 use Rattle.rules.specs.declared.Answer.the-variants.{Refused}
-use Rattle.rules.specs.Commands.{RAS, CPW, World, by, EIK, RPW, test, tests, firstOf, refusals, effect, plain, result, numberOf, step, settled, over, undue, keyed, ofOwn, outOfTurn}
+use Rattle.rules.specs.World.{World, over, key1}
+use Rattle.rules.specs.Refusals.{test, firstOf, ofOwn, outOfTurn}
+use Rattle.rules.specs.Commands.{RAS, CPW, by, EIK, RPW, tests, refusals, effect, undue, keyed}
+use Rattle.rules.specs.Step.{plain, result, numberOf, step, settled}
 use Rattle.properties.specs.Steps.{Performed, reply-first, settled-first, settled-done, next, fails, not-false}
-use Rattle.properties.specs.Passwords.{key1, authenticates, same-own, same-equal}
+use Rattle.properties.specs.Passwords.{authenticates, same-own, same-equal}
 
 -- ---- the same bytes
 

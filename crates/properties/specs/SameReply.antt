@@ -11,9 +11,12 @@ use Rattle.state.specs.State.{Bytes, find, seatOf, keyAt}
 use Rattle.table.specs.Entries.{fits, entryOf}
 use Rattle.table.specs.Passwords.{big, authentic}
 use Rattle.rules.specs.declared.Answer.the-variants.{Done, Refused}
-use Rattle.rules.specs.Commands.{UserCommand, RAS, CPW, World, by, Effect, refused, Told, told, plain, ruled, test, refusals, effect, rule, step, over, own, shutFor}
+use Rattle.rules.specs.World.{World, over, own, shutFor, key1}
+use Rattle.rules.specs.Refusals.{test}
+use Rattle.rules.specs.Commands.{UserCommand, RAS, CPW, by, Effect, refused, refusals, effect}
+use Rattle.rules.specs.Step.{Told, told, plain, ruled, rule, step}
 use Rattle.properties.specs.Steps.{listOf}
-use Rattle.properties.specs.Passwords.{key1, authenticates}
+use Rattle.properties.specs.Passwords.{authenticates}
 
 -- who is not in the table is not authenticated, whatever the password
 pub not-in-table : (w : World) (u : ℕ) (p : Bytes) → entryOf u (w .table) ≡ none → authenticates w u p ≡ false

@@ -11,7 +11,10 @@ use Rattle.ground.specs.Search.{byTest}
 use Rattle.state.specs.declared.Holdings.{Holdings}
 use Rattle.state.specs.declared.Place.{Place}
 use Rattle.state.specs.State.{Bytes, has, seat, vacant, find, put, admit, give, giveTo, leave, rekeyed, keyAt, fresh, bare}
-use Rattle.rules.specs.Commands.{World, Command, by, EIK, IPW, RPW, logout, LAU, Effect, refused, gives, keeps, leaves, enters, writes, carry, ruleIn, tests, keyed, firstOf, result, plain, step, settled, over, undue}
+use Rattle.rules.specs.World.{World, over}
+use Rattle.rules.specs.Refusals.{firstOf}
+use Rattle.rules.specs.Commands.{Command, by, EIK, IPW, RPW, logout, LAU, Effect, refused, gives, keeps, leaves, enters, writes, tests, keyed, undue}
+use Rattle.rules.specs.Step.{carry, ruleIn, result, plain, step, settled}
 use Rattle.rules.specs.declared.Answer.the-variants.{Done, Refused}
 use Rattle.table.specs.Entries.{enrolled}
 use Rattle.table.specs.Passwords.{sealed, moved}
@@ -116,7 +119,7 @@ module _ (v n : ℕ) (one : 1 ≤ n) where
   carried u (gives k b) w s = s
   carried u (keeps h) w s = given (find u (w .facility .places)) u h (w .facility .places) refl s
   carried u leaves w s = omega (arith, count-leave v u (w .facility .places))
-  carried u (enters b p) w s = s
+  carried u (enters password) w s = s
   carried u (writes b h) w s = given (find u (w .facility .places)) u h (w .facility .places) refl s
 
   -- an officer's command, done or refused
@@ -144,6 +147,10 @@ single-each w c out v s = at-most v 1 (omega arith) w c out s
 
 pub single : (w : World) (c : Command) (out : Bytes) → Single (w .facility .places) → Single (step w c out .world .facility .places)
 single w c out s v = single-each w c out v (s v)
+
+-- whatever a user's request does
+pub single-carried : (u : ℕ) (e : Effect) (w : World) → Single (w .facility .places) → Single (carry u e w .facility .places)
+single-carried u e w s v = carried v 1 (omega arith) u e w (s v)
 
 -- a fresh facility has no users
 pub single-fresh : Single (fresh .places)

@@ -14,7 +14,10 @@ use Rattle.state.specs.declared.Place.{Place}
 use Rattle.state.specs.State.{Bytes, has, seat, find, put, give}
 use Rattle.table.specs.Passwords.{big}
 use Rattle.rules.specs.declared.Answer.the-variants.{Done, Refused}
-use Rattle.rules.specs.Commands.{UserCommand, Command, by, World, Result, result, told, plain, carry, numberOf, refused, test, firstOf, refusals, effect, rule, step, settled, own, shutFor, bigPair}
+use Rattle.rules.specs.World.{World, own, shutFor}
+use Rattle.rules.specs.Refusals.{test, firstOf, bigPair}
+use Rattle.rules.specs.Commands.{UserCommand, Command, by, refused, refusals, effect}
+use Rattle.rules.specs.Step.{Result, result, told, plain, carry, numberOf, rule, step, settled}
 use Rattle.rules.proofs.Laws.{passed}
 
 -- the command's own list, in the world w

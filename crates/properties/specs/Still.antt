@@ -15,7 +15,10 @@ use Rattle.cipher.specs.declared.modes.Mode.the-variants.{Ecbe, Ecbd}
 use Rattle.state.specs.declared.Holdings.{Holdings}
 use Rattle.state.specs.declared.Place.{Place}
 use Rattle.state.specs.State.{Bytes, has, seat, find, put, give, giveTo, seatOf, withPlaces}
-use Rattle.rules.specs.Commands.{UserCommand, World, by, mode, DAUT, step, over, carry, refused, refusals, effect, rule, afterMode, own}
+use Rattle.rules.specs.World.{World, over, own, shutFor}
+use Rattle.rules.specs.Sides.{afterMode}
+use Rattle.rules.specs.Commands.{UserCommand, by, mode, DAUT, refused, refusals, effect}
+use Rattle.rules.specs.Step.{step, carry, rule}
 use Rattle.rules.proofs.Laws.{mode-first}
 use Rattle.properties.specs.Steps.{listOf, next, not-false}
 
@@ -63,7 +66,7 @@ module _ (w : World) (u : ℕ) (m : Mode) (d out : Bytes) (leaves : (v : Vector)
   is-active : listOf w u (mode m d) out ≡ 0 → seatOf (find u (w .facility .places)) .active ≡ true
   unfolding refusals
   is-active z =
-      let a = next _ 1 _ (λ q. omega arith) (sym (mode-first m u d (length out) _) ∙ z) in
+      let a = next _ 1 _ (λ q. omega arith) (sym (mode-first m u d (length out) (shutFor u w) (own u w)) ∙ z) in
       not-false _ (next _ 3 _ (λ q. omega arith) (a .1) .0)
 
   mode-still : step w (by u (mode m d)) out .world ≡ w

@@ -13,7 +13,7 @@ use Rattle.ground.specs.Search.{byTest}
 use Rattle.ground.specs.Rows.{row, digits, digits-length, row-digits}
 use Rattle.state.specs.State.{Bytes}
 use Rattle.table.specs.Entries.{freeId, isSome, idOf, entryIn, enterIn, entryOf, enter, enrolIn, enrolled}
-use Rattle.rules.specs.Commands.{lacksEntry}
+use Rattle.rules.specs.Refusals.{lacksEntry}
 use Rattle.properties.specs.Steps.{not-false}
 
 -- the three cuts of t with b stored as the eight bytes of its first entry

@@ -18,7 +18,11 @@ use Rattle.state.specs.declared.Holdings.{Holdings}
 use Rattle.state.specs.State.{Bytes, find, seatOf}
 use Rattle.table.specs.Passwords.{big}
 use Rattle.rules.specs.declared.Answer.the-variants.{Wrote}
-use Rattle.rules.specs.Commands.{World, by, mode, DAUT, step, plain, effect, modeSide, lacksVector, badBlocks, sideFor, functionOf}
+use Rattle.rules.specs.World.{World}
+use Rattle.rules.specs.Sides.{modeSide, lacksVector, sideFor, functionOf}
+use Rattle.rules.specs.Refusals.{badBlocks}
+use Rattle.rules.specs.Commands.{by, mode, DAUT, effect}
+use Rattle.rules.specs.Step.{step, plain}
 use Rattle.rules.proofs.Laws.{good-blocks}
 use Rattle.properties.specs.Steps.{Accepted, accepted-first, done-step, put-own}
 use Rattle.properties.specs.Calls.{vectorOf, held, Conditions, conditions, accepted, left-world, key-stays, vector-there, vector-left, some-bytes}

@@ -17,7 +17,11 @@ use Rattle.cipher.proofs.Promise.{modeVector-after}
 use Rattle.state.specs.declared.Holdings.{Holdings}
 use Rattle.state.specs.State.{Bytes, find, seatOf}
 use Rattle.table.specs.Passwords.{big}
-use Rattle.rules.specs.Commands.{World, by, mode, own, step, Result, numberOf, refusals, effect, test, modeSide, lacksVector, badBlocks}
+use Rattle.rules.specs.World.{World, own, shutFor}
+use Rattle.rules.specs.Sides.{modeSide, lacksVector}
+use Rattle.rules.specs.Refusals.{test, badBlocks}
+use Rattle.rules.specs.Commands.{by, mode, refusals, effect}
+use Rattle.rules.specs.Step.{step, Result, numberOf}
 use Rattle.rules.proofs.Laws.{good-blocks, mode-first}
 use Rattle.properties.specs.Steps.{Accepted, listOf, reply-first, next, not-false, put-own}
 use Rattle.properties.specs.Demand1.{demand-1}
@@ -59,7 +63,7 @@ sideNumber w u m =
 module _ (w : World) (u : ℕ) (m : Mode) (d out : Bytes) (blocks : badBlocks (length d) ≡ false) (room : length d ≤ length out) where
   by-side : listOf w u (mode m d) out ≡ sideNumber w u m
   unfolding refusals sideNumber test
-  by-side = mode-first m u d (length out) (own u w) ∙ rw (blocks, le-ltb (length out) (length d) room)
+  by-side = mode-first m u d (length out) (shutFor u w) (own u w) ∙ rw (blocks, le-ltb (length out) (length d) room)
 
   reply-by-side : reply (step w (by u (mode m d)) out) ≡ sideNumber w u m
   unfolding effect

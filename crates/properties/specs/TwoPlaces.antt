@@ -14,7 +14,10 @@ use Rattle.state.specs.State.{Bytes, has, seat, vacant, find, put, admit, give,
 use Rattle.table.specs.Entries.{enrolled}
 use Rattle.table.specs.Passwords.{big, sealed, moved}
 use Rattle.rules.specs.declared.Answer.the-variants.{Done, Refused}
-use Rattle.rules.specs.Commands.{UserCommand, LAU, Command, by, EIK, IPW, RPW, logout, World, Own, Effect, refused, gives, keeps, leaves, enters, writes, carry, own, refusals, effect, rule, ruleIn, tests, firstOf, Result, result, told, plain, numberOf, step, stepBy, settled, over, undue, keyed}
+use Rattle.rules.specs.World.{World, Own, own, over}
+use Rattle.rules.specs.Refusals.{firstOf}
+use Rattle.rules.specs.Commands.{UserCommand, LAU, Command, by, EIK, IPW, RPW, logout, Effect, refused, gives, keeps, leaves, enters, writes, refusals, effect, tests, undue, keyed}
+use Rattle.rules.specs.Step.{carry, rule, ruleIn, Result, result, told, plain, numberOf, step, stepBy, settled}
 use Rattle.properties.specs.Steps.{done-step, fails, none-not-some}
 use Rattle.properties.specs.Single.{has-same, count}
 
@@ -61,7 +64,7 @@ module _ (u : ℕ) (h : Holdings) (qs : List Place) where
     carry-front (gives n b) = refl
     carry-front (keeps g) = ap (housing w) (give-front g)
     carry-front leaves = ap (housing w) (put-front vacant ps first)
-    carry-front (enters b p) = refl
+    carry-front (enters password) = refl
     carry-front (writes b g) = ap (housing w) (give-front g)
 
     sees : (c : UserCommand) (out : Bytes) → ruleIn (housing w (ps ++ qs)) u c out ≡ ruleIn (housing w ps) u c out
@@ -139,7 +142,7 @@ module _ (w : World) (u i : ℕ) (h : Holdings) (first : find u (take i (w .faci
   carried v (gives n b) = refl
   carried v (keeps g) = given (find v (w .facility .places)) v g
   carried v leaves = put-second u vacant h v i (w .facility .places) first second
-  carried v (enters b p) = refl
+  carried v (enters password) = refl
   carried v (writes b g) = given (find v (w .facility .places)) v g
 
   officers : (n : ℕ) (w′ : World) (out : Bytes) → w′ .facility .places ≡ w .facility .places → Stays (settled n w out w′ .world)

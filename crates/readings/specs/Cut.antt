@@ -14,7 +14,9 @@ use Rattle.stream.specs.declared.Field.the-variants.{Whole, Cut, End}
 use Rattle.stream.specs.Fields.{Bytes, part, lengthAt, fieldAt, within}
 use Rattle.stream.specs.Commands.{decoded}
 use Rattle.rules.specs.declared.Answer.the-variants.{Refused}
-use Rattle.rules.specs.Commands.{Command, World, result, plain, numberOf, step}
+use Rattle.rules.specs.World.{World}
+use Rattle.rules.specs.Commands.{Command}
+use Rattle.rules.specs.Step.{result, plain, numberOf, step}
 use Rattle.facility.specs.Requests.{commandOf, carriedOut, performed}
 use Rattle.properties.specs.Demand1.{never-17, two-digits}
 use Rattle.session.specs.Run.{answerTo, Answered, answered, ran, goOn, carryOn, ranFrom, turn}

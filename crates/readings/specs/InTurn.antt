@@ -7,7 +7,7 @@ use native.Mathlib.Omega.{arith}
 use lib.ListN.{length, drop, length-append}
 use Rattle.stream.specs.Fields.{Bytes, field, within, at-end}
 use Rattle.stream.specs.FieldLaws.{field-length, field-is-whole, field-value, field-rest}
-use Rattle.rules.specs.Commands.{World}
+use Rattle.rules.specs.World.{World}
 use Rattle.session.specs.Run.{answerTo, answered, Ran, ran, after, goOn, carryOn, ranFrom, turn}
 
 -- a tag and its value

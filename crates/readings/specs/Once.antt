@@ -5,7 +5,8 @@ use Prim.Native.Nat.{ℕ}
 use Rattle.printout.specs.Page.{Page, page, entered}
 use Rattle.state.specs.State.{Bytes}
 use Rattle.rules.specs.declared.Outcome.{Outcome}
-use Rattle.rules.specs.Commands.{World, over, left}
+use Rattle.rules.specs.World.{World, over}
+use Rattle.rules.specs.Outcomes.{left}
 use Rattle.properties.specs.Determined.{same}
 use Rattle.session.specs.declared.run.Printed.{Printed}
 use Rattle.session.specs.Run.{answerTo, Answered, lineOf, Left, leaves, printedRun}

@@ -19,7 +19,8 @@ use Rattle.printout.specs.Page.{page, letter, entered}
 use Rattle.printout.specs.Digits.{hexByte, hex, decimalIn, decimal}
 use Rattle.printout.specs.Lines.{shown, line}
 use Rattle.rules.specs.declared.Answer.the-variants.{Refused}
-use Rattle.rules.specs.Commands.{World, plain, numberOf}
+use Rattle.rules.specs.World.{World}
+use Rattle.rules.specs.Step.{plain, numberOf}
 use Rattle.session.specs.Run.{answerTo, answered, lineOf, transcript, goOn, carryOn, ranFrom, printedFrom, printedRun}
 use Rattle.readings.specs.Cut.{at-most-99}
 use Rattle.readings.specs.Shown.{shownIn, shows-no-more}

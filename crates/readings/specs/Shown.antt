@@ -21,9 +21,12 @@ use Rattle.stream.specs.FieldLaws.{field-length}
 use Rattle.stream.specs.Commands.{Row as Form, commands, argumentsIn, argumentsOf, blank, decoded}
 use Rattle.stream.specs.Grammar.{argument, spelled, Spells}
 use Rattle.stream.specs.Exact.{fits-spells, spells-fits}
-use Rattle.rules.specs.Commands.{UserCommand, RAS, LAU, CPW, GDK, LDK, GIV, LIV, EIV, RDK, mode, DAUT, Command, by, EIK, IPW, RPW, logout}
+use Rattle.rules.specs.Commands.{UserCommand, RAS, LAU, CPW, GDK, LDK, GIV, LIV, EIV, RDK, mode, DAUT, Command, by, EIK, IPW, RPW, logout, refusals, refused, effect, tests}
 use Rattle.state.specs.declared.Side.{Side}
-use Rattle.rules.specs.Commands.{World, Own, modeSide, Told, told, numberOf, badBlocks, modeRefusals, refusals, firstOf, refused, effect, rule, tests, settled, stepBy, step, own, shutFor}
+use Rattle.rules.specs.World.{World, Own, own, shutFor}
+use Rattle.rules.specs.Sides.{modeSide}
+use Rattle.rules.specs.Refusals.{badBlocks, firstOf}
+use Rattle.rules.specs.Step.{Told, told, numberOf, rule, settled, stepBy, step}
 use Rattle.rules.proofs.Laws.{good-blocks}
 use Rattle.facility.specs.Requests.{Row, rows, beside}
 use Rattle.properties.specs.Demand1.{holds, written, usersWritten, demand-1}
@@ -70,14 +73,14 @@ unless true h = h
 unless false h = refl
 
 -- where 12 does not hold, the data is whole blocks
-whole-blocks : (m : Mode) (u : ℕ) (d : Bytes) (room : ℕ) (o : Own) → holds 12 (modeRefusals m u d room o) ≡ false → badBlocks (length d) ≡ false
-unfolding modeRefusals
-whole-blocks Ecbe u d room o h = unless _ h
-whole-blocks Ecbd u d room o h = unless _ h
-whole-blocks Cbce u d room o h = unless _ h
-whole-blocks Cbcd u d room o h = unless _ h
-whole-blocks Cfbe u d room o h = unless _ h
-whole-blocks Cfbd u d room o h = unless _ h
+whole-blocks : (m : Mode) (u : ℕ) (d : Bytes) (room : ℕ) (shut : Bool) (o : Own) → holds 12 (refusals u (mode m d) room shut o) ≡ false → badBlocks (length d) ≡ false
+unfolding refusals
+whole-blocks Ecbe u d room shut o h = unless _ h
+whole-blocks Ecbd u d room shut o h = unless _ h
+whole-blocks Cbce u d room shut o h = unless _ h
+whole-blocks Cbcd u d room shut o h = unless _ h
+whole-blocks Cfbe u d room shut o h = unless _ h
+whole-blocks Cfbd u d room shut o h = unless _ h
 
 -- what the effect of a user's command shows, where no refusal applies
 Shows : ℕ → UserCommand → World → Bytes → Type 0
@@ -99,7 +102,7 @@ effect-shows u (EIV b) w out = (refl, λ z n r t. first-of 8 (told (effect u (EI
 effect-shows u (RDK p i f b) w out = (refl, λ z n r t. first-of 8 (told (effect u (RDK p i f b) (own u w)) out .block) n r)
 effect-shows u (mode m d) w out =
     let s = modeText m (side .key .key .0) (side .vector .vector .0) d in
-    (refl, λ z n r t. first-of (length s) (onto s out) n (omega (arith, t, modeText-length m (side .key .key .0) (side .vector .vector .0) d (good-blocks (length d) (whole-blocks m u d (length out) (own u w) (z 12))))))
+    (refl, λ z n r t. first-of (length s) (onto s out) n (omega (arith, t, modeText-length m (side .key .key .0) (side .vector .vector .0) d (good-blocks (length d) (whole-blocks m u d (length out) (shutFor u w) (own u w) (z 12))))))
   where
     side : Side
     side = modeSide m (own u w .seat .holdings)

@@ -13,7 +13,9 @@ use Rattle.stream.specs.Commands.{Row as Form, commands, argumentsIn, arguments
 use Rattle.stream.specs.Grammar.{Spells}
 use Rattle.stream.specs.Exact.{spells-fits, misfit}
 use Rattle.rules.specs.declared.Answer.the-variants.{Refused}
-use Rattle.rules.specs.Commands.{Command, World, Result, result, plain, numberOf, step}
+use Rattle.rules.specs.World.{World}
+use Rattle.rules.specs.Commands.{Command}
+use Rattle.rules.specs.Step.{Result, result, plain, numberOf, step}
 use Rattle.facility.specs.Requests.{Row, rows, beside, commandOf, carriedOut, performed}
 use Rattle.properties.specs.Performed.{only-then}
 use Rattle.session.specs.Run.{answerTo}

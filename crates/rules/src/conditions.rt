@@ -1,6 +1,7 @@
 // The conditions of the refusals.
 ghost use mathlib.Core.Path.{_≡_};
-ghost use Rattle.rules.specs.Commands.{bigPair, functionOf, unknown, wrongPair, badLength, badBlocks, lacksVector, ofOwn, test};
+ghost use Rattle.rules.specs.Sides.{functionOf, unknown, wrongPair, lacksVector};
+ghost use Rattle.rules.specs.Refusals.{bigPair, badLength, badBlocks, ofOwn, test};
 
 use crate::Function;
 use cipher::modes::Mode;

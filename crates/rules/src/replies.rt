@@ -1,6 +1,6 @@
 // The four outcomes.
 ghost use mathlib.Core.Path.{_≡_};
-ghost use Rattle.rules.specs.Commands.{refusedOf, doneOf, gaveOf, wroteOf};
+ghost use Rattle.rules.specs.Outcomes.{refusedOf, doneOf, gaveOf, wroteOf};
 
 use crate::Answer;
 use crate::Outcome;

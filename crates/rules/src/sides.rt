@@ -1,6 +1,6 @@
 // Pairs, and the two sides of a user's place.
 ghost use mathlib.Core.Path.{_≡_};
-ghost use Rattle.rules.specs.Commands.{pairKey, sideFor, loaded, vectored, withKey, withVector, modeSide, afterMode};
+ghost use Rattle.rules.specs.Sides.{pairKey, sideFor, loaded, vectored, withKey, withVector, modeSide, afterMode};
 
 use crate::Function;
 use cipher::keys::DataKey;

@@ -17,7 +17,9 @@ use Rattle.state.specs.State.{Bytes}
 use Rattle.rules.specs.declared.Answer.{Answer}
 use Rattle.rules.specs.declared.Answer.the-variants.{Done, Gave, Wrote, Refused}
 use Rattle.rules.specs.declared.Outcome.{Outcome}
-use Rattle.rules.specs.Commands.{World, Result, result, Told, plain, numberOf, refusedOf, over as world, left as leftBy}
+use Rattle.rules.specs.World.{World, over as world}
+use Rattle.rules.specs.Step.{Result, result, Told, plain, numberOf}
+use Rattle.rules.specs.Outcomes.{refusedOf, left as leftBy}
 use Rattle.state.specs.declared.Facility.{Facility}
 use Rattle.facility.specs.Requests.{performed}
 

@@ -1,6 +1,7 @@
 // A stream carried out: its commands one after the other, and a line for each.
 ghost use mathlib.Core.Path.{_≡_};
-ghost use Rattle.rules.specs.Commands.{left, over};
+ghost use Rattle.rules.specs.World.{over};
+ghost use Rattle.rules.specs.Outcomes.{left};
 ghost use Rattle.printout.specs.Page.{page, entered};
 ghost use Rattle.session.specs.Run.{answerTo, answered, lineOf, leaves, printedRun};
 

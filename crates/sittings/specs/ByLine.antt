@@ -19,7 +19,7 @@ use Rattle.encoder.specs.Encoded.{encoded}
 use Rattle.grammar.specs.Says.{Commands, RawBytes, Reads}
 use Rattle.grammar.specs.Exact.{fits-reads, reads-fits}
 use Rattle.grammar.specs.Streamed.{line-spells, line-short, line-field}
-use Rattle.rules.specs.Commands.{World}
+use Rattle.rules.specs.World.{World}
 use Rattle.session.specs.Run.{Ran, ran, ranFrom, over}
 use Rattle.clerk.specs.Spoken.{commandBytes, bytesFor, spoken}
 use Rattle.clerk.specs.Heard.{heard}

@@ -11,8 +11,11 @@ use Rattle.ground.specs.Search.{byTest}
 use Rattle.cipher.specs.Cipher.{modeText}
 use Rattle.stream.specs.Fields.{Bytes}
 use Rattle.stream.specs.Commands.{decoded}
-use Rattle.rules.specs.Commands.{UserCommand, RAS, LAU, CPW, GDK, LDK, GIV, LIV, EIV, RDK, mode, DAUT, Command, by, EIK, IPW, RPW, logout}
-use Rattle.rules.specs.Commands.{World, Own, modeSide, Result, told, refusals, firstOf, refused, effect, rule, settled, tests, stepBy, step, own, shutFor}
+use Rattle.rules.specs.Commands.{UserCommand, RAS, LAU, CPW, GDK, LDK, GIV, LIV, EIV, RDK, mode, DAUT, Command, by, EIK, IPW, RPW, logout, refusals, refused, effect, tests}
+use Rattle.rules.specs.World.{World, Own, own, shutFor}
+use Rattle.rules.specs.Sides.{modeSide}
+use Rattle.rules.specs.Refusals.{firstOf}
+use Rattle.rules.specs.Step.{Result, told, rule, settled, stepBy, step}
 use Rattle.facility.specs.Requests.{commandOf, carriedOut, performed}
 use Rattle.properties.specs.Demand1.{demand-1}
 use Rattle.session.specs.Run.{answerTo}

@@ -41,7 +41,8 @@ use Rattle.grammar.specs.Room.{twenty}
 use Rattle.state.specs.declared.Holdings.{Holdings}
 use Rattle.state.specs.declared.Place.{Place}
 use Rattle.state.specs.State.{holders}
-use Rattle.rules.specs.Commands.{World, numberOf}
+use Rattle.rules.specs.World.{World}
+use Rattle.rules.specs.Step.{numberOf}
 use Rattle.talk.specs.Replies.{refused, replies, meaning, wordsOf}
 use Rattle.talk.specs.Help.{help}
 use Rattle.talk.specs.Who.{held, userLine, placeLine, placeLines, who}

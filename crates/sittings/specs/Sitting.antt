@@ -7,7 +7,7 @@ use lib.ListN.{take}
 use Rattle.stream.specs.Fields.{Bytes}
 use Rattle.printout.specs.Page.{Page}
 use Rattle.grammar.specs.Means.{OfAnswer}
-use Rattle.rules.specs.Commands.{World}
+use Rattle.rules.specs.World.{World}
 use Rattle.session.specs.Run.{Answered, ranFrom, printedFrom, printedRun}
 use Rattle.counter.specs.Kept.{Books, booked, allBooked}
 use Rattle.counter.specs.Service.{Carried, carried, withAnswers, carriedOut}

@@ -1,4 +1,4 @@
-use Rattle.rules.specs.Commands.{step}
+use Rattle.rules.specs.Step.{step}
 use borrow.Author.Needs.{needs}
 use Rattle.admission.proofs.host_logout.Statement.{statement}
 use Rattle.admission.proofs.host_logout.Tie as tie

@@ -1,71 +1,15 @@
-use Rattle.rules.specs.Commands.{step, refusals, rule, effect}
-use borrow.Author.Tests.{eq-eqb, ne-eqb}
+use Rattle.rules.proofs.Laws.{by-refusal, by-effect}
 use borrow.Author.Needs.{needs}
 use Rattle.admission.proofs.ras.Statement.{statement}
 use Rattle.admission.proofs.ras.Tie as tie
 
 returns : tie.Need-returns
-unfolding step refusals rule effect
-returns c out = simp (
-  c .refused .ensures,
-  ne-eqb _ _ (c .before .if1 .taken),
-  ← c .before .before .first7 .ensures,
-  ← c .before .before .before .first6 .ensures,
-  ← c .before .before .before .before .first5 .ensures,
-  ← c .before .before .before .before .before .first4 .ensures,
-  ← c .before .before .before .before .before .before .first3 .ensures,
-  ← c .before .before .before .before .before .before .before .first2 .ensures,
-  ← c .before .before .before .before .before .before .before .before .first .ensures,
-  ← c .before .before .before .before .before .before .before .before .before .before .is-authentic .ensures,
-  ← c .before .before .before .before .before .before .before .before .before .before .before .is-shut-to .ensures,
-  ← c .before .before .before .before .before .before .before .before .before .before .before .before .is-fit .ensures,
-  ← c .before .before .before .before .before .before .before .before .before .before .before .before .before .is-big .ensures,
-  ← c .before .before .before .before .before .before .before .before .before .before .before .before .before .before .current-key .ensures,
-  ← c .before .before .before .before .before .before .before .before .before .before .before .before .before .before .before .seat-of .ensures,
-)
+returns c out = by-refusal _ _ _ out _ (c .before .before .ras-refusal .ensures out) (c .before .if1 .taken) _ (c .refused .ensures)
 
 returns-2 : tie.Need-returns-2
-unfolding step refusals rule effect
-returns-2 c out = simp (
-  c .done .ensures,
-  ← c .before .keep .ensures,
-  ← c .before .before .nothing-held .ensures,
-  eq-eqb _ _ (c .before .before .before .if1 .left),
-  ← c .before .before .before .before .first7 .ensures,
-  ← c .before .before .before .before .before .first6 .ensures,
-  ← c .before .before .before .before .before .before .first5 .ensures,
-  ← c .before .before .before .before .before .before .before .first4 .ensures,
-  ← c .before .before .before .before .before .before .before .before .first3 .ensures,
-  ← c .before .before .before .before .before .before .before .before .before .first2 .ensures,
-  ← c .before .before .before .before .before .before .before .before .before .before .first .ensures,
-  ← c .before .before .before .before .before .before .before .before .before .before .before .before .is-authentic .ensures,
-  ← c .before .before .before .before .before .before .before .before .before .before .before .before .before .is-shut-to .ensures,
-  ← c .before .before .before .before .before .before .before .before .before .before .before .before .before .before .is-fit .ensures,
-  ← c .before .before .before .before .before .before .before .before .before .before .before .before .before .before .before .is-big .ensures,
-  ← c .before .before .before .before .before .before .before .before .before .before .before .before .before .before .before .before .current-key .ensures,
-  ← c .before .before .before .before .before .before .before .before .before .before .before .before .before .before .before .before .before .seat-of .ensures,
-)
+returns-2 c out = by-effect _ _ _ out _ (c .before .before .ras-refusal .ensures out) (c .before .if1 .left) _ (c .ras-effect .ensures _ out)
 
 pub ras-spec : {M : Type 1} → statement M
 ras-spec =
     tie.close
-    (tie.spec
-    (λ c κs. search needs)
-    (λ c κs. search needs)
-    (λ c κs. search needs)
-    (λ c κs. search needs)
-    (λ c κs. search needs)
-    (λ c κs. search needs)
-    (λ c κs. search needs)
-    (λ c κs. search needs)
-    (λ c κs. search needs)
-    (λ c κs. search needs)
-    (λ c κs. search needs)
-    (λ c κs. search needs)
-    (λ c κs. search needs)
-    (λ c κs. search needs)
-    returns
-    (λ c κs. search needs)
-    (λ c κs. search needs)
-    (λ c κs. search needs)
-    returns-2)
+    (tie.spec (λ c κs. search needs) (λ c κs. search needs) returns (λ c κs. search needs) returns-2)

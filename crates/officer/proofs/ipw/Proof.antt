@@ -1,42 +1,13 @@
-use Rattle.rules.specs.Commands.{step, tests}
-use borrow.Author.Tests.{eq-eqb, ne-eqb}
+use Rattle.rules.proofs.Laws.{by-refusal, by-effect}
 use borrow.Author.Needs.{needs}
 use Rattle.officer.proofs.ipw.Statement.{statement}
 use Rattle.officer.proofs.ipw.Tie as tie
 
 returns : tie.Need-returns
-unfolding step tests
-returns c out = simp (
-  c .refused .ensures,
-  ne-eqb _ _ (c .before .if1 .taken),
-  ← c .before .before .first5 .ensures,
-  ← c .before .before .before .first4 .ensures,
-  ← c .before .before .before .before .first3 .ensures,
-  ← c .before .before .before .before .before .first2 .ensures,
-  ← c .before .before .before .before .before .before .first .ensures,
-  ← c .before .before .before .before .before .before .before .before .lacks-entry .ensures,
-  ← c .before .before .before .before .before .before .before .before .before .before .is-fit .ensures,
-  ← c .before .before .before .before .before .before .before .before .before .before .before .is-big .ensures,
-  ← c .before .before .before .before .before .before .before .before .before .before .before .before .current-key .ensures,
-)
+returns c out = by-refusal _ _ _ out _ (c .before .before .ipw-refusal .ensures out) (c .before .if1 .taken) _ (c .refused .ensures)
 
 returns-2 : tie.Need-returns-2
-unfolding step tests
-returns-2 c out = simp (
-  c .done .ensures,
-  c .before .before .before .enrol .ensures,
-  ← c .before .before .before .before .seal-password .ensures,
-  eq-eqb _ _ (c .before .before .before .before .before .before .if1 .left),
-  ← c .before .before .before .before .before .before .before .first5 .ensures,
-  ← c .before .before .before .before .before .before .before .before .first4 .ensures,
-  ← c .before .before .before .before .before .before .before .before .before .first3 .ensures,
-  ← c .before .before .before .before .before .before .before .before .before .before .first2 .ensures,
-  ← c .before .before .before .before .before .before .before .before .before .before .before .first .ensures,
-  ← c .before .before .before .before .before .before .before .before .before .before .before .before .before .lacks-entry .ensures,
-  ← c .before .before .before .before .before .before .before .before .before .before .before .before .before .before .before .is-fit .ensures,
-  ← c .before .before .before .before .before .before .before .before .before .before .before .before .before .before .before .before .is-big .ensures,
-  ← c .before .before .before .before .before .before .before .before .before .before .before .before .before .before .before .before .before .current-key .ensures,
-)
+returns-2 c out = by-effect _ _ _ out _ (c .before .before .before .before .before .ipw-refusal .ensures out) (c .before .before .before .before .if1 .left) _ (c .before .before .ipw-effect .ensures out)
 
 pub ipw-spec : {M : Type 1} → statement M
 ipw-spec =
@@ -44,18 +15,8 @@ ipw-spec =
     (tie.spec
     (λ c κs. search needs)
     (λ c κs. search needs)
-    (λ c κs. search needs)
-    (λ c κs. search needs)
-    (λ c κs. search needs)
-    (λ c κs. search needs)
-    (λ c κs. search needs)
-    (λ c κs. search needs)
-    (λ c κs. search needs)
-    (λ c κs. search needs)
     (λ c. search needs)
     returns
-    (λ c κs. search needs)
-    (λ c κs. search needs)
     (λ c κs. search needs)
     (λ c. search needs)
     returns-2)

@@ -1,4 +1,4 @@
-use Rattle.rules.specs.Commands.{outOfTurn}
+use Rattle.rules.specs.Refusals.{outOfTurn}
 use borrow.Author.Needs.{needs}
 use Rattle.officer.proofs.is_out_of_turn.Statement.{statement}
 use Rattle.officer.proofs.is_out_of_turn.Tie as tie

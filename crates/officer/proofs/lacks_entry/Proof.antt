@@ -1,4 +1,4 @@
-use Rattle.rules.specs.Commands.{lacksEntry}
+use Rattle.rules.specs.Refusals.{lacksEntry}
 use borrow.Author.Needs.{needs}
 use Rattle.officer.proofs.lacks_entry.Statement.{statement}
 use Rattle.officer.proofs.lacks_entry.Tie as tie

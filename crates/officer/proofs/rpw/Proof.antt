@@ -1,36 +1,13 @@
-use Rattle.rules.specs.Commands.{step, tests}
-use borrow.Author.Tests.{eq-eqb, ne-eqb}
+use Rattle.rules.proofs.Laws.{by-refusal, by-effect}
 use borrow.Author.Needs.{needs}
 use Rattle.officer.proofs.rpw.Statement.{statement}
 use Rattle.officer.proofs.rpw.Tie as tie
 
 returns : tie.Need-returns
-unfolding step tests
-returns c out = simp (
-  c .refused .ensures,
-  ne-eqb _ _ (c .before .if1 .taken),
-  ← c .before .before .first2 .ensures,
-  ← c .before .before .before .first .ensures,
-  ← c .before .before .before .before .is-out-of-turn .ensures,
-  ← c .before .before .before .before .before .is-fit .ensures,
-  ← c .before .before .before .before .before .before .current-key .ensures,
-  ← c .before .before .before .before .before .before .before .old-key .ensures,
-)
+returns c out = by-refusal _ _ _ out _ (c .before .before .rpw-refusal .ensures out) (c .before .if1 .taken) _ (c .refused .ensures)
 
 returns-2 : tie.Need-returns-2
-unfolding step tests
-returns-2 c out = simp (
-  c .done .ensures,
-  ← c .before .not-due .ensures,
-  c .before .before .before .before .move-all .ensures,
-  eq-eqb _ _ (c .before .before .before .before .before .before .if1 .left),
-  ← c .before .before .before .before .before .before .before .first2 .ensures,
-  ← c .before .before .before .before .before .before .before .before .first .ensures,
-  ← c .before .before .before .before .before .before .before .before .before .is-out-of-turn .ensures,
-  ← c .before .before .before .before .before .before .before .before .before .before .is-fit .ensures,
-  ← c .before .before .before .before .before .before .before .before .before .before .before .current-key .ensures,
-  ← c .before .before .before .before .before .before .before .before .before .before .before .before .old-key .ensures,
-)
+returns-2 c out = by-effect _ _ _ out _ (c .before .before .before .before .before .rpw-refusal .ensures out) (c .before .before .before .before .if1 .left) _ (c .before .before .rpw-effect .ensures out)
 
 pub rpw-spec : {M : Type 1} → statement M
 rpw-spec =
@@ -38,14 +15,8 @@ rpw-spec =
     (tie.spec
     (λ c κs. search needs)
     (λ c κs. search needs)
-    (λ c κs. search needs)
-    (λ c κs. search needs)
-    (λ c κs. search needs)
-    (λ c κs. search needs)
-    (λ c κs. search needs)
+    (λ c. search needs)
     returns
-    (λ c κs. search needs)
-    (λ c κs. search needs)
     (λ c κs. search needs)
     (λ c. search needs)
     returns-2)

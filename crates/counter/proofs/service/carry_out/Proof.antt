@@ -4,7 +4,7 @@ use native.Mathlib.Omega.{arith}
 use lib.ListN.{length}
 use borrow.Author.Needs.{needs}
 use Rattle.printout.specs.Page.{page}
-use Rattle.rules.specs.Commands.{over}
+use Rattle.rules.specs.World.{over}
 use Rattle.session.specs.Run.{ranFrom}
 use Rattle.counter.specs.Kept.{books}
 use Rattle.counter.specs.Service.{withAnswers, carriedOut, step, further, finished}

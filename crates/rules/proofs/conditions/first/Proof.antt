@@ -1,4 +1,4 @@
-use Rattle.rules.specs.Commands.{test}
+use Rattle.rules.specs.Refusals.{test}
 use Rattle.rules.proofs.conditions.first.Statement.{statement}
 use Rattle.rules.proofs.conditions.first.Tie as tie
 

@@ -1,4 +1,4 @@
-use Rattle.rules.specs.Commands.{functionOf}
+use Rattle.rules.specs.Sides.{functionOf}
 use borrow.Author.Tests.{eq-eqb, ne-eqb}
 use Rattle.rules.proofs.conditions.function_of.Statement.{statement}
 use Rattle.rules.proofs.conditions.function_of.Tie as tie

@@ -1,4 +1,4 @@
-use Rattle.rules.specs.Commands.{badBlocks}
+use Rattle.rules.specs.Refusals.{badBlocks}
 use borrow.Author.Needs.{needs}
 use Rattle.rules.proofs.conditions.is_bad_blocks.Statement.{statement}
 use Rattle.rules.proofs.conditions.is_bad_blocks.Tie as tie

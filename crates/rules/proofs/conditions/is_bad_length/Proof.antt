@@ -1,4 +1,4 @@
-use Rattle.rules.specs.Commands.{badLength}
+use Rattle.rules.specs.Refusals.{badLength}
 use borrow.Author.Tests.{eq-eqb, ne-eqb}
 use Rattle.rules.proofs.conditions.is_bad_length.Statement.{statement}
 use Rattle.rules.proofs.conditions.is_bad_length.Tie as tie

@@ -1,4 +1,4 @@
-use Rattle.rules.specs.Commands.{bigPair}
+use Rattle.rules.specs.Refusals.{bigPair}
 use borrow.Author.Needs.{needs}
 use Rattle.rules.proofs.conditions.is_big_pair.Statement.{statement}
 use Rattle.rules.proofs.conditions.is_big_pair.Tie as tie

@@ -1,4 +1,4 @@
-use Rattle.rules.specs.Commands.{unknown}
+use Rattle.rules.specs.Sides.{unknown}
 use borrow.Author.Needs.{needs}
 use Rattle.rules.proofs.conditions.is_unknown.Statement.{statement}
 use Rattle.rules.proofs.conditions.is_unknown.Tie as tie

@@ -1,4 +1,4 @@
-use Rattle.rules.specs.Commands.{wrongPair}
+use Rattle.rules.specs.Sides.{wrongPair}
 use borrow.Author.Needs.{needs}
 use Rattle.rules.proofs.conditions.is_wrong_pair.Statement.{statement}
 use Rattle.rules.proofs.conditions.is_wrong_pair.Tie as tie

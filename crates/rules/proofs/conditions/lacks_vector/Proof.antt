@@ -1,4 +1,4 @@
-use Rattle.rules.specs.Commands.{lacksVector}
+use Rattle.rules.specs.Sides.{lacksVector}
 use borrow.Author.Needs.{needs}
 use Rattle.rules.proofs.conditions.lacks_vector.Statement.{statement}
 use Rattle.rules.proofs.conditions.lacks_vector.Tie as tie

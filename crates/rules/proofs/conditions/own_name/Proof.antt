@@ -1,4 +1,4 @@
-use Rattle.rules.specs.Commands.{ofOwn}
+use Rattle.rules.specs.Refusals.{ofOwn}
 use borrow.Author.Tests.{eq-eqb, ne-eqb}
 use Rattle.rules.proofs.conditions.own_name.Statement.{statement}
 use Rattle.rules.proofs.conditions.own_name.Tie as tie

@@ -1,4 +1,4 @@
-use Rattle.rules.specs.Commands.{afterMode}
+use Rattle.rules.specs.Sides.{afterMode}
 use borrow.Author.Needs.{needs}
 use Rattle.rules.proofs.sides.after_mode.Statement.{statement}
 use Rattle.rules.proofs.sides.after_mode.Tie as tie

@@ -1,4 +1,4 @@
-use Rattle.rules.specs.Commands.{modeSide}
+use Rattle.rules.specs.Sides.{modeSide}
 use borrow.Author.Needs.{needs}
 use Rattle.rules.proofs.sides.mode_side.Statement.{statement}
 use Rattle.rules.proofs.sides.mode_side.Tie as tie

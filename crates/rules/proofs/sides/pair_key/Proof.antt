@@ -1,4 +1,4 @@
-use Rattle.rules.specs.Commands.{pairKey}
+use Rattle.rules.specs.Sides.{pairKey}
 use borrow.Author.Needs.{needs}
 use Rattle.rules.proofs.sides.pair_key.Statement.{statement}
 use Rattle.rules.proofs.sides.pair_key.Tie as tie

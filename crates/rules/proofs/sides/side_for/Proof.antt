@@ -1,4 +1,4 @@
-use Rattle.rules.specs.Commands.{sideFor}
+use Rattle.rules.specs.Sides.{sideFor}
 use borrow.Author.Needs.{needs}
 use Rattle.rules.proofs.sides.side_for.Statement.{statement}
 use Rattle.rules.proofs.sides.side_for.Tie as tie

@@ -1,4 +1,4 @@
-use Rattle.rules.specs.Commands.{withKey}
+use Rattle.rules.specs.Sides.{withKey}
 use borrow.Author.Needs.{needs}
 use Rattle.rules.proofs.sides.with_key.Statement.{statement}
 use Rattle.rules.proofs.sides.with_key.Tie as tie

@@ -1,4 +1,4 @@
-use Rattle.rules.specs.Commands.{withVector}
+use Rattle.rules.specs.Sides.{withVector}
 use borrow.Author.Needs.{needs}
 use Rattle.rules.proofs.sides.with_vector.Statement.{statement}
 use Rattle.rules.proofs.sides.with_vector.Tie as tie

@@ -4,7 +4,7 @@ use native.Mathlib.Omega.{arith}
 use lib.ListN.{length}
 use borrow.Author.Needs.{needs}
 use Rattle.stream.specs.Fields.{within}
-use Rattle.rules.specs.Commands.{over}
+use Rattle.rules.specs.World.{over}
 use Rattle.printout.specs.Page.{page}
 use Rattle.session.specs.Run.{ranFrom, printedFrom, printedRun, turned, cut-off, turn-none, turn-end}
 use Rattle.session.proofs.run.run.Statement.{statement}
