@@ -178,7 +178,9 @@ module _ (w : World) (u : ℕ) (m : Mode) (d e out₁ out₂ out : Bytes) (good�
       let z = sym reply-joined ∙ done in
       sym (joined-text w u m d e out₁ out₂ (holds z) (active-then z .1) (octets z) bytes (one z) (two z) out limit room)
 
-  -- two calls equal one: they have its reply, so that both are accepted exactly if the one is; they leave its world; and what they wrote, joined, is what it wrote
+  -- two calls equal one: they have its reply, so that both are accepted exactly if the one is; they leave its world; and where they are, what they wrote,
+  -- joined, is what it wrote
   pub two-equal-one : (reply first ≡ reply joined) × (reply second ≡ reply joined) × (second .world ≡ joined .world)
-      × (reply joined ≡ 0 → take (length d) (first .answered .output) ++ take (length e) (second .answered .output) ≡ take (length (d ++ e)) (joined .answered .output))
+      × (reply joined ≡ 0
+      → take (length d) (first .answered .output) ++ take (length e) (second .answered .output) ≡ take (length (d ++ e)) (joined .answered .output))
   two-equal-one = (same-reply .0, same-reply .1, same-world, same-text)
