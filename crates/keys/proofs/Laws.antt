@@ -4,6 +4,7 @@ use mathlib.Core.List.{List, [], _∷_, _++_, map}
 use Prim.Native.Nat.{ℕ, zero, suc, _+_, _-_, _*_, _/_, _%_, _<_}
 use native.Mathlib.Nat.{div-one}
 use native.Mathlib.Omega.{arith}
+use lib.Bits.{bitXor}
 use lib.ListN.{length, getD, length-map}
 use Rattle.ground.specs.Rows.{digits}
 use lib.Dec.{lit<}
@@ -50,3 +51,34 @@ map-below (x ∷ xs) h (suc i) = map-below xs (λ j. h (suc j)) i
 pub parity-octets : (b : List ℕ) → Octets b → Octets (parityOf b)
 unfolding parityOf
 parity-octets b o = record { eight = length-map b (λ x. odd (x / 2)) ∙ o .eight; small = map-below b (o .small) }
+
+-- ---- the parity that a key had is ignored
+
+-- without its last bit the byte is the seven bits again
+odd-half : (s : ℕ) → odd s / 2 ≡ s
+unfolding odd
+odd-half s = omega arith
+
+-- a key mixes as the same key with its parity set
+mixedIn-parity : (k gs : List ℕ) → mixedIn (parityOf k) gs ≡ mixedIn k gs
+unfolding mixedIn mixed parityOf
+mixedIn-parity [] gs = refl
+mixedIn-parity (b ∷ bs) [] = refl
+mixedIn-parity (b ∷ bs) (g ∷ gs) = ap₂ (λ (x : ℕ) (xs : List ℕ). odd (bitXor x g) ∷ xs) (odd-half (b / 2)) (mixedIn-parity bs gs)
+
+pub notarized-parity : (k : List ℕ) (i j : ℕ) → notarized (parityOf k) i j ≡ notarized k i j
+unfolding notarized
+notarized-parity k i j = mixedIn-parity k (groups i ++ groups j)
+
+parity-halves : (k : List ℕ) → parityOf k ≡ map odd (map (λ (b : ℕ). b / 2) k)
+unfolding parityOf
+parity-halves [] = refl
+parity-halves (b ∷ bs) = ap (λ (l : List ℕ). odd (b / 2) ∷ l) (parity-halves bs)
+
+-- two keys that differ only in the last bits of their bytes notarize alike
+pub notarized-alike : (k k′ : List ℕ) (i j : ℕ) → parityOf k ≡ parityOf k′ → notarized k i j ≡ notarized k′ i j
+notarized-alike k k′ i j e = sym (notarized-parity k i j) ∙ ap (λ (l : List ℕ). notarized l i j) e ∙ notarized-parity k′ i j
+
+-- that is: two keys whose leftmost seven bits agree, byte for byte
+pub same-parity : (k k′ : List ℕ) → map (λ (b : ℕ). b / 2) k ≡ map (λ (b : ℕ). b / 2) k′ → parityOf k ≡ parityOf k′
+same-parity k k′ e = parity-halves k ∙ ap (map odd) e ∙ sym (parity-halves k′)
