@@ -9,7 +9,7 @@ use native.Mathlib.Omega.{arith}
 use lib.Dec.{eqb, leb, ltb}
 use lib.ListN.{length, drop, length-append, length-drop}
 use lib.Seq.{drop-at}
-use borrow.Author.Tests.{eqb-true, eq-eqb, ne-eqb, leb-true, ltb-false}
+use borrow.Author.Tests.{eqb-true, eqb-false, eq-eqb, ne-eqb, leb-true, ltb-false}
 use Rattle.cipher.specs.declared.modes.Mode.{Mode}
 use Rattle.cipher.specs.declared.modes.Mode.the-variants.{Ecbe, Ecbd, Cbce, Cbcd, Cfbe, Cfbd}
 use Rattle.cipher.specs.Cipher.{modeText}
@@ -31,7 +31,7 @@ holds n [] = false
 holds n (r ∷ rs) = cond (eqb n (r .number)) (cond (r .applies) true (holds n rs)) (holds n rs)
 
 -- the numbers rise, from m
-abbrev rising : ℕ → List Test → Bool
+abbrev pub rising : ℕ → List Test → Bool
 rising m [] = true
 rising m (r ∷ rs) = cond (leb m (r .number)) (rising (r .number) rs) false
 
@@ -78,7 +78,7 @@ module _ (m : ℕ) (r : Test) (rs : List Test) (p : 1 ≤ m) (a : (m ≤ r .numb
     clear = λ z. ih .clear (λ k. sym (skip r rs k f) ∙ z k);
   })
 
-is-lowest : (m : ℕ) (l : List Test) → 1 ≤ m → rising m l ≡ true → Lowest l (firstOf l)
+pub is-lowest : (m : ℕ) (l : List Test) → 1 ≤ m → rising m l ≡ true → Lowest l (firstOf l)
 is-lowest m [] p h = record { held = λ z. absurd (z refl); least = λ k lt. refl; none = λ z k. refl; clear = λ z. refl }
 is-lowest m (r ∷ rs) p h =
     let a : (m ≤ r .number) × (rising (r .number) rs ≡ true) = above m r rs h in
@@ -241,29 +241,92 @@ page (IPW u p) = 1 ∷ 2 ∷ 6 ∷ 7 ∷ 15 ∷ []
 page RPW = 2 ∷ 7 ∷ []
 page (logout u) = 1 ∷ 3 ∷ []
 
-mode-as-printed : (m : Mode) (u : ℕ) (d : Bytes) (room : ℕ) (shut : Bool) (o : Own) → map (λ (r : Test). r .number) (refusals u (mode m d) room shut o) ≡ modePage m
+-- n stands in the list; no number of the list is above n
+abbrev pub among : ℕ → List ℕ → Bool
+among n [] = false
+among n (k ∷ ks) = cond (eqb n k) true (among n ks)
+
+abbrev pub upTo : ℕ → List ℕ → Bool
+upTo n [] = true
+upTo n (k ∷ ks) = cond (leb k n) (upTo n ks) false
+
+abbrev pub numbers : List Test → List ℕ
+numbers l = map (λ (r : Test). r .number) l
+
+-- the numbers of the list l are those of the page's list p; 16 and 17 are not among them, and each has two digits at most
+abbrev Printed : List Test → List ℕ → Type 0
+Printed l p = (numbers l ≡ p) × (among 16 p ≡ false) × (among 17 p ≡ false) × (upTo 99 p ≡ true)
+
+mode-printed : (m : Mode) (u : ℕ) (d : Bytes) (room : ℕ) (shut : Bool) (o : Own) → Printed (refusals u (mode m d) room shut o) (modePage m)
 unfolding refusals
-mode-as-printed Ecbe u d room shut o = refl
-mode-as-printed Ecbd u d room shut o = refl
-mode-as-printed Cbce u d room shut o = refl
-mode-as-printed Cbcd u d room shut o = refl
-mode-as-printed Cfbe u d room shut o = refl
-mode-as-printed Cfbd u d room shut o = refl
+mode-printed Ecbe u d room shut o = (refl, refl, refl, refl)
+mode-printed Ecbd u d room shut o = (refl, refl, refl, refl)
+mode-printed Cbce u d room shut o = (refl, refl, refl, refl)
+mode-printed Cbcd u d room shut o = (refl, refl, refl, refl)
+mode-printed Cfbe u d room shut o = (refl, refl, refl, refl)
+mode-printed Cfbd u d room shut o = (refl, refl, refl, refl)
+
+printed : (c : Command) (w : World) (out : Bytes) → Printed (tests c w out) (page c)
+unfolding tests refusals
+printed (by u (RAS p)) w out = (refl, refl, refl, refl)
+printed (by u LAU) w out = (refl, refl, refl, refl)
+printed (by u (CPW p n)) w out = (refl, refl, refl, refl)
+printed (by u (GDK p i b)) w out = (refl, refl, refl, refl)
+printed (by u (LDK p i f b)) w out = (refl, refl, refl, refl)
+printed (by u (GIV b)) w out = (refl, refl, refl, refl)
+printed (by u (LIV f b)) w out = (refl, refl, refl, refl)
+printed (by u (EIV b)) w out = (refl, refl, refl, refl)
+printed (by u (RDK p i f b)) w out = (refl, refl, refl, refl)
+printed (by u (mode m d)) w out = mode-printed m u d (length out) (shutFor u w) (own u w)
+printed (by u (DAUT f d)) w out = (refl, refl, refl, refl)
+printed (EIK i k) w out = (refl, refl, refl, refl)
+printed (IPW u p) w out = (refl, refl, refl, refl)
+printed RPW w out = (refl, refl, refl, refl)
+printed (logout u) w out = (refl, refl, refl, refl)
 
 pub as-printed : (c : Command) (w : World) (out : Bytes) → map (λ (r : Test). r .number) (tests c w out) ≡ page c
-unfolding tests refusals
-as-printed (by u (RAS p)) w out = refl
-as-printed (by u LAU) w out = refl
-as-printed (by u (CPW p n)) w out = refl
-as-printed (by u (GDK p i b)) w out = refl
-as-printed (by u (LDK p i f b)) w out = refl
-as-printed (by u (GIV b)) w out = refl
-as-printed (by u (LIV f b)) w out = refl
-as-printed (by u (EIV b)) w out = refl
-as-printed (by u (RDK p i f b)) w out = refl
-as-printed (by u (mode m d)) w out = mode-as-printed m u d (length out) (shutFor u w) (own u w)
-as-printed (by u (DAUT f d)) w out = refl
-as-printed (EIK i k) w out = refl
-as-printed (IPW u p) w out = refl
-as-printed RPW w out = refl
-as-printed (logout u) w out = refl
+as-printed c w out = printed c w out .0
+
+-- ---- 16 and 17
+
+-- they stand in no command's own list
+pub in-no-list : (c : Command) (w : World) (out : Bytes) → (among 16 (numbers (tests c w out)) ≡ false) × (among 17 (numbers (tests c w out)) ≡ false)
+in-no-list c w out =
+    let p = printed c w out in
+    (ap (among 16) (p .0) ∙ p .1, ap (among 17) (p .0) ∙ p .2)
+
+-- a number that holds stands in the list, and a list has no number above its greatest
+holds-among : (n : ℕ) (l : List Test) → among n (numbers l) ≡ false → holds n l ≡ false
+holds-among n [] h = refl
+holds-among n (r ∷ rs) h =
+    byTest (eqb n (r .number))
+    (λ e. absurd (true≢false (rw e at h)))
+    (λ e. rw e (holds-among n rs (rw e at h)))
+
+holds-up-to : (n k : ℕ) (l : List Test) → upTo n (numbers l) ≡ true → holds k l ≡ true → k ≤ n
+holds-up-to n k [] h e = absurd (false≢true e)
+holds-up-to n k (r ∷ rs) h e =
+    byTest (leb (r .number) n)
+    (λ l.
+    let later = holds-up-to n k rs (rw l at h) in
+    byTest (eqb k (r .number))
+    (λ q. let z = eqb-true k (r .number) q in let y = leb-true (r .number) n l in omega arith)
+    (λ q. later (rw q at e)))
+    (λ l. absurd (false≢true (rw l at h)))
+
+module _ (w : World) (c : Command) (out : Bytes) where
+  -- so no command is answered by one of them
+  pub never-16 : numberOf (step w c out .answered .answer) ≡ 16 → ⊥
+  never-16 = not-given w c out 16 (λ z. omega arith) (holds-among 16 (tests c w out) (in-no-list c w out .0))
+
+  pub never-17 : numberOf (step w c out .answered .answer) ≡ 17 → ⊥
+  never-17 = not-given w c out 17 (λ z. omega arith) (holds-among 17 (tests c w out) (in-no-list c w out .1))
+
+  -- and every reply has two digits at most
+  pub two-digits : numberOf (step w c out .answered .answer) ≤ 99
+  two-digits =
+      let n = numberOf (step w c out .answered .answer) in
+      let p = printed c w out in
+      byTest (eqb n 0)
+      (λ e. let z = eqb-true n 0 e in omega arith)
+      (λ e. holds-up-to 99 n (tests c w out) (ap (upTo 99) (p .0) ∙ p .3) (demand-1 w c out .lowest .held (eqb-false n 0 e)))

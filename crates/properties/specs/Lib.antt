@@ -25,3 +25,8 @@ pub mod Still
 pub mod SameReply
 pub mod TwoPlaces
 pub mod Performed
+pub mod AllTaken
+pub mod EvenParity
+pub mod Replaced
+pub mod Nobodys
+pub mod TwoCalls

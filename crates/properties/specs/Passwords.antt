@@ -79,7 +79,7 @@ stands-only w u p q s o o′ e =
     let alike : sealed (key1 w) u p ≡ sealed (key1 w) u q = same-equal _ _ (sym (ap (authentic (key1 w) u q) (s .entry)) ∙ e) in
     sym (deciphered-enciphered k q o′) ∙ ap (deciphered k) (sym alike) ∙ deciphered-enciphered k p o
 
-small-number : (u : ℕ) → big u ≡ false → u < 4294967295
+pub small-number : (u : ℕ) → big u ≡ false → u < 4294967295
 unfolding big
 small-number u h = omega (arith, ltb-false 268435455 u h)
 

@@ -37,7 +37,7 @@ module _ (t r : Bytes) (long : 12 ≤ length t) where
   twelve : length (take 12 t) ≡ 12
   twelve = length-take-le 12 t long
 
-  stay-first : take 12 (take 12 t ++ r) ≡ take 12 t
+  pub stay-first : take 12 (take 12 t ++ r) ≡ take 12 t
   stay-first = take-at (take 12 t) r 12 twelve
 
   pub stay-rest : drop 12 (take 12 t ++ r) ≡ r
@@ -46,7 +46,7 @@ module _ (t r : Bytes) (long : 12 ≤ length t) where
   pub stay-id : take 4 (take 12 t ++ r) ≡ take 4 t
   stay-id = take-append-le 4 (take 12 t) r (omega (arith, twelve)) ∙ take-take 4 12 t (omega arith)
 
-  stay-entry : take 8 (drop 4 (take 12 t ++ r)) ≡ take 8 (drop 4 t)
+  pub stay-entry : take 8 (drop 4 (take 12 t ++ r)) ≡ take 8 (drop 4 t)
   stay-entry =
       rw (take-add 4 8 t, append-assoc (take 4 t) (take 8 (drop 4 t)) r, drop-at (take 4 t) (take 8 (drop 4 t) ++ r) 4 (length-take-le 4 t (omega arith)))
       (take-at (take 8 (drop 4 t)) r 8 (length-take-le 8 (drop 4 t) (omega (arith, length-drop 4 t))))

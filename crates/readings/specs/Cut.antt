@@ -3,95 +3,46 @@ use mathlib.Core.Path.{_≡_, refl, sym, ap, _∙_}
 use mathlib.Core.Bool.{Bool, true, false, cond, false≢true, true≢false}
 use mathlib.Core.Logic.{_↔_}
 use mathlib.Core.Option.{Option, none, some}
-use mathlib.Core.List.{List, [], _∷_, _++_, map, nil≢cons, head-eq-of-cons-eq, tail-eq-of-cons-eq}
+use mathlib.Core.List.{List, [], _∷_, _++_, nil≢cons, head-eq-of-cons-eq, tail-eq-of-cons-eq}
 use Prim.Native.Nat.{ℕ, zero, suc, _+_, _-_, _≤_, _<_}
 use native.Mathlib.Omega.{arith}
 use lib.Dec.{eqb, leb, ltb}
 use lib.ListN.{length, getD, drop}
-use borrow.Author.Tests.{eqb-true, eqb-false, eq-eqb, ne-eqb, leb-true, leb-false, ltb-true, ltb-false}
-use Rattle.ground.specs.Search.{byTest}
-use Rattle.cipher.specs.declared.modes.Mode.{Mode}
-use Rattle.cipher.specs.declared.modes.Mode.the-variants.{Ecbe, Ecbd, Cbce, Cbcd, Cfbe, Cfbd}
+use borrow.Author.Tests.{eq-eqb, ne-eqb, leb-true, leb-false, ltb-true, ltb-false}
 use Rattle.stream.specs.declared.Field.{Field}
 use Rattle.stream.specs.declared.Field.the-variants.{Whole, Cut, End}
 use Rattle.stream.specs.Fields.{Bytes, part, lengthAt, fieldAt, within}
 use Rattle.stream.specs.Commands.{decoded}
 use Rattle.rules.specs.declared.Answer.the-variants.{Refused}
-use Rattle.rules.specs.Commands.{RAS, LAU, CPW, GDK, LDK, GIV, LIV, EIV, RDK, mode, DAUT, Command, by, EIK, IPW, RPW, logout, tests}
 use Rattle.rules.specs.World.{World}
-use Rattle.rules.specs.Refusals.{Test}
+use Rattle.rules.specs.Commands.{Command}
 use Rattle.rules.specs.Step.{result, plain, numberOf, step}
 use Rattle.facility.specs.Requests.{commandOf, carriedOut, performed}
-use Rattle.properties.specs.Demand1.{holds, page, modePage, as-printed, demand-1}
+use Rattle.properties.specs.Demand1.{never-17, two-digits}
 use Rattle.session.specs.Run.{answerTo, Answered, answered, ran, goOn, carryOn, ranFrom, turn}
 
 -- ---- the numbers that a command is answered by
 
--- none is above n
-abbrev upTo : ℕ → List ℕ → Bool
-upTo n [] = true
-upTo n (k ∷ ks) = cond (leb k n) (upTo n ks) false
-
-modes-to-15 : (m : Mode) → upTo 15 (modePage m) ≡ true
-modes-to-15 Ecbe = refl
-modes-to-15 Ecbd = refl
-modes-to-15 Cbce = refl
-modes-to-15 Cbcd = refl
-modes-to-15 Cfbe = refl
-modes-to-15 Cfbd = refl
-
--- no command's own list goes above 15
-to-15 : (c : Command) → upTo 15 (page c) ≡ true
-to-15 (by u (RAS p)) = refl
-to-15 (by u LAU) = refl
-to-15 (by u (CPW p n)) = refl
-to-15 (by u (GDK p i b)) = refl
-to-15 (by u (LDK p i f b)) = refl
-to-15 (by u (GIV b)) = refl
-to-15 (by u (LIV f b)) = refl
-to-15 (by u (EIV b)) = refl
-to-15 (by u (RDK p i f b)) = refl
-to-15 (by u (mode m d)) = modes-to-15 m
-to-15 (by u (DAUT f d)) = refl
-to-15 (EIK i k) = refl
-to-15 (IPW u p) = refl
-to-15 RPW = refl
-to-15 (logout u) = refl
-
--- a number that is given stands in the list
-within-list : (n k : ℕ) (l : List Test) → upTo n (map (λ (r : Test). r .number) l) ≡ true → holds k l ≡ true → k ≤ n
-within-list n k [] h e = absurd (false≢true e)
-within-list n k (r ∷ rs) h e =
-    byTest (leb (r .number) n)
-    (λ l.
-    let later = within-list n k rs (rw l at h) in
-    byTest (eqb k (r .number))
-    (λ q. let z = eqb-true k (r .number) q in let y = leb-true (r .number) n l in omega arith)
-    (λ q. later (rw q at e)))
-    (λ l. absurd (false≢true (rw l at h)))
-
-pub at-most-15 : (w : World) (c : Command) (out : Bytes) → numberOf (step w c out .answered .answer) ≤ 15
-at-most-15 w c out =
-    let n = numberOf (step w c out .answered .answer) in
-    byTest (eqb n 0)
-    (λ e. let z = eqb-true n 0 e in omega arith)
-    (λ e. within-list 15 n (tests c w out) (ap (upTo 15) (as-printed c w out) ∙ to-15 c) (demand-1 w c out .lowest .held (eqb-false n 0 e)))
-
--- what stands whole is answered by at most 16
-pub at-most-16 : (w : World) (t : ℕ) (v out : Bytes) → numberOf (answerTo w t v out .answered .answer) ≤ 16
+-- what stands whole is answered as a command is, or by 16
+whole-by : (P : ℕ → Type 0) → P 16 → ((w : World) (c : Command) (out : Bytes) → P (numberOf (step w c out .answered .answer)))
+    → (w : World) (t : ℕ) (v out : Bytes) → P (numberOf (answerTo w t v out .answered .answer))
 unfolding answerTo performed
-at-most-16 w t v out = by-fit (decoded t v .fits)
+whole-by P form command w t v out = by-fit (decoded t v .fits)
   where
-    by-command : (o : Option Command) → numberOf (carriedOut w o out .answered .answer) ≤ 16
-    by-command none = omega arith
-    by-command (some c) = let h = at-most-15 w c out in omega arith
+    by-command : (o : Option Command) → P (numberOf (carriedOut w o out .answered .answer))
+    by-command none = form
+    by-command (some c) = command w c out
 
-    by-fit : (b : Bool) → numberOf (cond b (performed w (decoded t v .asked) (drop (decoded t v .text) v) out) (result (plain (Refused 16) out) w) .answered .answer) ≤ 16
+    by-fit : (b : Bool) → P (numberOf (cond b (performed w (decoded t v .asked) (drop (decoded t v .text) v) out) (result (plain (Refused 16) out) w) .answered .answer))
     by-fit true = by-command (commandOf (decoded t v .asked) (drop (decoded t v .text) v))
-    by-fit false = omega arith
+    by-fit false = form
 
+-- so never by 17, and by two digits at most
 not-17 : (w : World) (t : ℕ) (v out : Bytes) → eqb (numberOf (answerTo w t v out .answered .answer)) 17 ≡ false
-not-17 w t v out = ne-eqb (numberOf (answerTo w t v out .answered .answer)) 17 (λ e. let h = at-most-16 w t v out in omega arith)
+not-17 = whole-by (λ n. eqb n 17 ≡ false) refl (λ w c out. ne-eqb (numberOf (step w c out .answered .answer)) 17 (never-17 w c out))
+
+pub at-most-99 : (w : World) (t : ℕ) (v out : Bytes) → numberOf (answerTo w t v out .answered .answer) ≤ 99
+at-most-99 = whole-by (λ n. n ≤ 99) (omega arith) two-digits
 
 -- ---- what is cut
 

@@ -22,7 +22,7 @@ use Rattle.rules.specs.declared.Answer.the-variants.{Refused}
 use Rattle.rules.specs.World.{World}
 use Rattle.rules.specs.Step.{plain, numberOf}
 use Rattle.session.specs.Run.{answerTo, answered, lineOf, transcript, goOn, carryOn, ranFrom, printedFrom, printedRun}
-use Rattle.readings.specs.Cut.{at-most-16}
+use Rattle.readings.specs.Cut.{at-most-99}
 use Rattle.readings.specs.Shown.{shownIn, shows-no-more}
 
 -- ---- a line
@@ -78,7 +78,7 @@ module _ (s : Bytes) (bytes : Below 256 s) (size : length s ≤ 65536) where
       let v = part start end s in
       let told = answerTo w tag v out .answered in
       let value = shows-no-more w tag v out (below-take 256 (end - start) (drop start s) (omega arith) (below-drop 256 start s bytes)) in
-      let here = line-length i tag (numberOf (told .answer)) (shownIn told) (omega arith) (omega (arith, at-most-16 w tag v out)) in
+      let here = line-length i tag (numberOf (told .answer)) (shownIn told) (omega arith) (omega (arith, at-most-99 w tag v out)) in
       let rest = ih (answerTo w tag v out .world) (told .output) end (suc i) (omega (arith, b .0, b .1)) (b .2) in
       rw (length-append (lineOf i (answered tag told)) (transcript (suc i) (carryOn n s (answerTo w tag v out .world) (told .output) end .answers)))
       (omega (arith, value, here, rest, part-length start end s (b .1) (b .2), b .0, b .1, b .2))
