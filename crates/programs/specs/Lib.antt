@@ -1,0 +1,2 @@
+pub mod Notary
+pub mod Room
