@@ -3,13 +3,12 @@ use mathlib.Core.Path.{_≡_, sym, ap, _∙_}
 use mathlib.Core.List.{_++_}
 use Prim.Native.Nat.{ℕ, _≤_}
 use native.Mathlib.Omega.{arith}
-use lib.ListN.{length, replicate, length-take}
+use lib.ListN.{length, length-take}
 
 use Rattle.ground.specs.Lists.{Below, below-take}
 use Rattle.printout.specs.Page.{Page, page}
-use Rattle.state.specs.declared.Facility.{Facility}
-use Rattle.state.specs.State.{Bytes, fresh}
-use Rattle.rules.specs.Commands.{over}
+use Rattle.state.specs.State.{Bytes}
+use Rattle.rules.specs.Commands.{World}
 use Rattle.session.specs.Run.{Left, printedRun}
 use Rattle.readings.specs.Room.{lines-length, whole-page}
 use Rattle.programs.specs.Notary.{stream, buffer, start, notary, printed}
@@ -32,10 +31,9 @@ unfolding notary printed stream
 all-printed input paper bytes size =
     whole-page (stream input) start buffer paper (below-take 256 65536 input (omega arith) bytes) (stream-length input) (omega arith)
 
--- what the code did: the stream that it read, the facility that it began with, and what the run left
-pub carried-out : (input paper s : Bytes) (f : Facility) (after : Left) → Below 256 input → length paper ≡ 327680 → s ≡ stream input → f ≡ fresh
-    → after ≡ printedRun s (over f (replicate 768 0xFF)) (replicate 32768 0) (page paper 0) → after .printed ≡ printed (notary input) paper
-unfolding start buffer
-carried-out input paper s f after bytes size e g r =
-    let as-defined : after ≡ printedRun (stream input) start buffer (page paper 0) = rw (← e, ← g) r in
+-- what the code did: what the run left, the stream that it read, the world and the output that it began with
+pub carried-out : (input paper s out : Bytes) (w : World) (after : Left) → Below 256 input → length paper ≡ 327680
+    → after ≡ printedRun s w out (page paper 0) → s ≡ stream input → w ≡ start → out ≡ buffer → after .printed ≡ printed (notary input) paper
+carried-out input paper s out w after bytes size r e f g =
+    let as-defined : after ≡ printedRun (stream input) start buffer (page paper 0) = rw (← e, ← f, ← g) r in
     ap (λ (l : Left). l .printed) as-defined ∙ all-printed input paper bytes size
