@@ -14,8 +14,9 @@ use state::Facility;
 use stream::Field;
 use stream::commands::decode;
 use stream::commands::text_from;
-use stream::fields::value_at;
 use stream::reader::read_at;
+use stream::reader::read_past;
+use stream::reader::read_value;
 
 // The command of this tag and value: 16 where the value is not that of a command with this tag.
 pub fn answer_to(f: Facility, table: &mut [u8], out: &mut [u8], tag: u8, value: &[u8]) -> Outcome
@@ -60,11 +61,11 @@ pub fn run(f: Facility, table: &mut [u8], out: &mut [u8], s: &[u8], paper: &mut 
     while at < s.len() {
         let next = read_at(s, at);
         match next {
-            Field::Whole { tag, start: _, end } => {
-                let done = answer_to(state, &mut table[..], &mut out[..], tag, value_at(s, at));
+            Field::Whole { tag, start: _, end: _ } => {
+                let done = answer_to(state, &mut table[..], &mut out[..], tag, read_value(s, at));
                 filled = put_answer(&mut paper[..], filled, ordinal, tag, done, &out[..]);
                 state = done.state;
-                at = end;
+                at = read_past(s, at);
                 ordinal += 1;
             }
             Field::Cut { tag } => {
