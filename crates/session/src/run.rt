@@ -51,6 +51,7 @@ pub struct Printed {
 }
 
 // All commands of the stream, with their lines from the start of the page on. A header or value that runs past the stream's end is 17, and reading stops.
+// What stands at a place, its value, and the place past it are the reader's to say.
 pub fn run(f: Facility, table: &mut [u8], out: &mut [u8], s: &[u8], paper: &mut [u8]) -> Printed
     ensures { λ r. ⌜ leaves (over (r .state) (now (table .exit))) (now (out .exit)) (page (now (paper .exit)) (r .filled)) ≡ printedRun (now (s .entry)) (over f (now (table .entry))) (now (out .entry)) (page (now (paper .entry)) 0) ⌝ }
 {
