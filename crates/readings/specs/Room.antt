@@ -8,7 +8,7 @@ use native.Mathlib.Numerals.{add-one}
 use native.Mathlib.Omega.{arith}
 use lib.Dec.{ltb}
 use lib.ListN.{length, take, drop, set, length-append, length-set}
-use lib.Seq.{sets}
+use lib.Seq.{sets, sets-eq}
 use borrow.Author.Tests.{lt-ltb}
 use Rattle.ground.specs.Search.{byTest}
 use Rattle.ground.specs.Lists.{Below, below-take, below-drop, take-sets}
@@ -106,6 +106,16 @@ roomy (x ∷ xs) b n h =
     let e : ltb n (length b) ≡ true = lt-ltb n (length b) (omega arith) in
     let k : suc n + length xs ≡ n + suc (length xs) = omega arith in
     rw (e, add-one) (roomy xs (set b n x) (suc n) (omega (arith, length-set b n x)) ∙ ap (page (sets (set b n x) (suc n) xs)) k)
+
+-- a run prints every line, and leaves the rest of the page as it was
+pub whole-page : (s : Bytes) (w : World) (out b : Bytes) → Below 256 s → length s ≤ 65536 → 327680 ≤ length b
+    → let xs = transcript 1 (ranFrom s w out 0 .answers) in printedRun s w out (page b 0) .printed ≡ page (xs ++ drop (length xs) b) (length xs)
+unfolding printedRun printedFrom
+whole-page s w out b bytes size room =
+    let xs = transcript 1 (ranFrom s w out 0 .answers) in
+    let h : 0 + length xs ≤ length b = omega (arith, lines-length s bytes size w out) in
+    let from-0 : 0 + length xs ≡ length xs = omega arith in
+    roomy xs b 0 h ∙ rw (sets-eq xs b 0 h, from-0)
 
 -- what is printed is every line
 pub all-printed : (s : Bytes) (w : World) (out b : Bytes) → Below 256 s → length s ≤ 65536 → 327680 ≤ length b

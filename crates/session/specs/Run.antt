@@ -9,7 +9,7 @@ use lib.ListN.{length, take, drop}
 use Rattle.stream.specs.declared.Field.{Field}
 use Rattle.stream.specs.declared.Field.the-variants.{Whole, Cut, End}
 use Rattle.stream.specs.declared.Reading.{Reading}
-use Rattle.stream.specs.Fields.{part, fieldAt, valueAt, value-whole, at-end, within}
+use Rattle.stream.specs.Fields.{part, fieldAt, valueAt, pastAt, value-whole, past-whole, at-end, within}
 use Rattle.stream.specs.Commands.{decoded}
 use Rattle.printout.specs.Page.{Page, entered, then}
 use Rattle.printout.specs.Lines.{line}
@@ -162,11 +162,12 @@ module _ (s : Bytes) where
 
     -- what the code did at a turn
     pub turned : (tag start end : ℕ) → fieldAt s at ≡ Whole tag start end → at < length s
-        → (v : Bytes) → v ≡ valueAt s at → (done : Outcome) (t out′ : Bytes) → leftBy done t out′ ≡ answerTo w tag v out
+        → (v : Bytes) → v ≡ valueAt s at → (to : ℕ) → to ≡ pastAt s at → (done : Outcome) (t out′ : Bytes) → leftBy done t out′ ≡ answerTo w tag v out
         → (q : Page) → q ≡ entered (lineOf i (answered tag (leftBy done t out′ .answered))) p
-        → printedFrom (i + 1) q (ranFrom s (world (done .state) t) out′ end) ≡ printedFrom i p (ranFrom s w out at)
-    turned tag start end e h v f done t out′ d q g =
-        ap (λ (x : Page). printedFrom (i + 1) x (ranFrom s (world (done .state) t) out′ end)) g
+        → printedFrom (i + 1) q (ranFrom s (world (done .state) t) out′ to) ≡ printedFrom i p (ranFrom s w out at)
+    turned tag start end e h v f to k done t out′ d q g =
+        ap (λ (n : ℕ). printedFrom (i + 1) q (ranFrom s (world (done .state) t) out′ n)) (k ∙ past-whole s at tag start end e)
+        ∙ ap (λ (x : Page). printedFrom (i + 1) x (ranFrom s (world (done .state) t) out′ end)) g
         ∙ ap (λ (a : Result). printedFrom (i + 1) (entered (lineOf i (answered tag (a .answered))) p) (ranFrom s (a .world) (a .answered .output) end)) (d ∙ ap (λ (x : Bytes). answerTo w tag x out) (f ∙ value-whole s at tag start end e))
         ∙ sym (turn-whole tag start end e h)
 

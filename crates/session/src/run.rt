@@ -15,8 +15,9 @@ use state::Facility;
 use stream::Field;
 use stream::commands::decode;
 use stream::commands::text_from;
-use stream::fields::value_at;
 use stream::reader::read_at;
+use stream::reader::read_past;
+use stream::reader::read_value;
 
 // The command of this tag and value: 16 where the value is not that of a command with this tag.
 pub fn answer_to(f: Facility, table: &mut [u8], out: &mut [u8], tag: u8, value: &[u8]) -> Outcome
@@ -51,6 +52,7 @@ pub struct Printed {
 }
 
 // All commands of the stream, with their lines from the start of the page on. A header or value that runs past the stream's end is 17, and reading stops.
+// What stands at a place, its value, and the place past it are the reader's to say.
 pub fn run(f: Facility, table: &mut [u8], out: &mut [u8], s: &[u8], paper: &mut [u8]) -> Printed
     ensures { λ r. ⌜ leaves (over (r .state) (now (table .exit))) (now (out .exit)) (page (now (paper .exit)) (r .filled)) ≡ printedRun (now (s .entry)) (over f (now (table .entry))) (now (out .entry)) (page (now (paper .entry)) 0) ⌝ }
 {
@@ -61,11 +63,11 @@ pub fn run(f: Facility, table: &mut [u8], out: &mut [u8], s: &[u8], paper: &mut 
     while at < s.len() {
         let next = read_at(s, at);
         match next {
-            Field::Whole { tag, start: _, end } => {
-                let done = answer_to(state, &mut table[..], &mut out[..], tag, value_at(s, at));
+            Field::Whole { tag, start: _, end: _ } => {
+                let done = answer_to(state, &mut table[..], &mut out[..], tag, read_value(s, at));
                 filled = put_answer(&mut paper[..], filled, ordinal, tag, done, &out[..]);
                 state = done.state;
-                at = end;
+                at = read_past(s, at);
                 ordinal += 1;
             }
             Field::Cut { tag } => {

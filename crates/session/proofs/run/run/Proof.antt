@@ -3,7 +3,7 @@ use Prim.Native.Nat.{_+_, _-_, _≤_}
 use native.Mathlib.Omega.{arith}
 use lib.ListN.{length}
 use borrow.Author.Needs.{needs}
-use Rattle.stream.specs.Fields.{within}
+use Rattle.stream.specs.Fields.{within, past-whole}
 use Rattle.rules.specs.World.{over}
 use Rattle.printout.specs.Page.{page}
 use Rattle.session.specs.Run.{ranFrom, printedFrom, printedRun, turned, cut-off, turn-none, turn-end}
@@ -24,35 +24,78 @@ abbrev μ-loop : tie.MeasureT-loop
 loop-holds : tie.Need-loop-holds Inv-loop μ-loop
 loop-holds c = (refl, refl, refl, omega arith, refl)
 
+-- ---- after a whole field
+
 add-ordinal : tie.Need-add-ordinal Inv-loop μ-loop
-add-ordinal c = let w = within _ _ _ _ _ (sym (c .before .before .before .before .before .before .before .before .before .before .before .before .before .before .before .before .before .read-at .ensures) ∙ c .before .before .before .before .before .before .before .before .before .before .before .before .before .before .before .next .given .1) in omega (arith, w .0, w .1, w .2, c .before .before .before .before .before .before .before .before .before .before .before .before .before .before .before .before .before .before .before .loop .inv .3)
+add-ordinal c =
+    let at-put = c .before .before .before .before in
+    let at-value = at-put .before .before .before .before .before .before .before .before in
+    let at-next = at-value .before .before .before .before in
+    let at-read = at-next .before .before in
+    let at-loop = at-read .before .before in
+    let e = sym (at-read .read-at .ensures) ∙ at-next .next .given .1 in
+    let w = within _ _ _ _ _ e in
+    omega (arith, w .0, w .1, c .read-past .ensures ∙ past-whole _ _ _ _ _ e, at-loop .loop .inv .3)
 
 loop-less : tie.Need-loop-less Inv-loop μ-loop
-loop-less c = let w = within _ _ _ _ _ (sym (c .before .before .before .before .before .before .before .before .before .before .before .before .before .before .before .before .before .read-at .ensures) ∙ c .before .before .before .before .before .before .before .before .before .before .before .before .before .before .before .next .given .1) in omega (arith, w .0, w .1)
+loop-less c =
+    let at-put = c .before .before .before .before in
+    let at-value = at-put .before .before .before .before .before .before .before .before in
+    let at-next = at-value .before .before .before .before in
+    let at-read = at-next .before .before in
+    let e = sym (at-read .read-at .ensures) ∙ at-next .next .given .1 in
+    let w = within _ _ _ _ _ e in
+    omega (arith, w .0, w .1, c .read-past .ensures ∙ past-whole _ _ _ _ _ e)
 
 loop-again : tie.Need-loop-again Inv-loop μ-loop
 loop-again c =
-    let e = sym (c .before .before .before .before .before .before .before .before .before .before .before .before .before .before .before .before .before .read-at .ensures) ∙ c .before .before .before .before .before .before .before .before .before .before .before .before .before .before .before .next .given .1 in
+    let at-put = c .before .before .before .before in
+    let at-answer = at-put .before .before .before .before .before .before .before in
+    let at-value = at-answer .before in
+    let at-next = at-value .before .before .before .before in
+    let at-read = at-next .before .before in
+    let at-test = at-read .before in
+    let at-loop = at-test .before in
+    let inv = at-loop .loop .inv in
+    let e = sym (at-read .read-at .ensures) ∙ at-next .next .given .1 in
     let w = within _ _ _ _ _ e in (
-      c .before .before .before .before .before .before .before .before .before .before .answer-to .kept .1 .0 ∙ c .before .before .before .before .before .before .before .before .before .before .before .before .before .before .before .before .before .before .before .loop .inv .0,
-      c .before .before .before .before .before .before .before .before .before .before .answer-to .kept .1 .1 .0 ∙ c .before .before .before .before .before .before .before .before .before .before .before .before .before .before .before .before .before .before .before .loop .inv .1,
-      c .before .before .before .put-answer .kept .0 ∙ c .before .before .before .before .before .before .before .before .before .before .before .before .before .before .before .before .before .before .before .loop .inv .2,
-      omega (arith, w .0, w .1, c .before .before .before .before .before .before .before .before .before .before .before .before .before .before .before .before .before .before .before .loop .inv .3),
-      turned _ _ _ _ _ _ _ _ _ e (c .before .before .before .before .before .before .before .before .before .before .before .before .before .before .before .before .before .before .loop-test .taken) _ (c .before .before .before .before .before .before .before .before .before .before .before .value-at .ensures) _ _ _ (c .before .before .before .before .before .before .before .before .before .before .answer-to .ensures) _ (c .before .before .before .put-answer .ensures) ∙ c .before .before .before .before .before .before .before .before .before .before .before .before .before .before .before .before .before .before .before .loop .inv .4,
+      at-answer .answer-to .kept .1 .0 ∙ inv .0,
+      at-answer .answer-to .kept .1 .1 .0 ∙ inv .1,
+      at-put .put-answer .kept .0 ∙ inv .2,
+      omega (arith, w .0, w .1, c .read-past .ensures ∙ past-whole _ _ _ _ _ e, inv .3),
+      turned _ _ _ _ _ _ _ _ _ e (at-test .loop-test .taken) _ (at-value .read-value .ensures) _ (c .read-past .ensures) _ _ _ (at-answer .answer-to .ensures) _ (at-put .put-answer .ensures) ∙ inv .4,
     )
 
+-- ---- where the stream is cut
+
 same-length : tie.Need-same-length Inv-loop μ-loop
-same-length c = c .before .before .before .before .before .before .before .before .before .before .before .loop .inv .0
+same-length c =
+    let at-read = c .before .before .before .before .before .before .before .before .before in
+    at-read .before .before .loop .inv .0
 
 same-length-2 : tie.Need-same-length-2 Inv-loop μ-loop
-same-length-2 c = c .before .before .before .before .before .before .before .before .before .before .before .loop .inv .1
+same-length-2 c =
+    let at-read = c .before .before .before .before .before .before .before .before .before in
+    at-read .before .before .loop .inv .1
 
 same-length-3 : tie.Need-same-length-3 Inv-loop μ-loop
-same-length-3 c = c .before .before .put-answer2 .kept .0 ∙ c .before .before .before .before .before .before .before .before .before .before .before .loop .inv .2
+same-length-3 c =
+    let at-put = c .before .before in
+    let at-read = at-put .before .before .before .before .before .before .before in
+    at-put .put-answer2 .kept .0 ∙ at-read .before .before .loop .inv .2
 
 returns : tie.Need-returns Inv-loop μ-loop
 unfolding printedRun
-returns c = cut-off _ _ _ _ _ _ _ (sym (c .before .before .before .before .before .before .before .before .before .read-at .ensures) ∙ c .before .before .before .before .before .before .before .next2 .given .1) (c .before .before .before .before .before .before .before .before .before .before .loop-test .taken) _ _ (c .before .before .before .before .refused .ensures) _ (c .before .before .put-answer2 .ensures) ∙ c .before .before .before .before .before .before .before .before .before .before .before .loop .inv .4
+returns c =
+    let at-put = c .before .before in
+    let at-refused = at-put .before .before in
+    let at-next = at-refused .before .before .before in
+    let at-read = at-next .before .before in
+    let at-test = at-read .before in
+    let e = sym (at-read .read-at .ensures) ∙ at-next .next2 .given .1 in
+    cut-off _ _ _ _ _ _ _ e (at-test .loop-test .taken) _ _ (at-refused .refused .ensures) _ (at-put .put-answer2 .ensures) ∙ at-test .before .loop .inv .4
+
+-- ---- where nothing is left
 
 same-length-4 : tie.Need-same-length-4 Inv-loop μ-loop
 same-length-4 c = c .before .before .before .before .loop .inv .0
@@ -65,7 +108,9 @@ same-length-6 c = c .before .before .before .before .loop .inv .2
 
 returns-2 : tie.Need-returns-2 Inv-loop μ-loop
 unfolding printedRun
-returns-2 c = sym (turn-none _ _ _ _ _ _ (sym (c .before .before .read-at .ensures) ∙ c .enum-told .given .1) (c .before .before .before .loop-test .taken)) ∙ c .before .before .before .before .loop .inv .4
+returns-2 c =
+    let at-read = c .before .before in
+    sym (turn-none _ _ _ _ _ _ (sym (at-read .read-at .ensures) ∙ c .enum-told .given .1) (at-read .before .loop-test .taken)) ∙ at-read .before .before .loop .inv .4
 
 same-length-7 : tie.Need-same-length-7 Inv-loop μ-loop
 same-length-7 c = c .before .loop .inv .0
@@ -91,6 +136,7 @@ run-spec =
     loop-holds
     (λ c κs. search needs)
     (λ c. search needs)
+    (λ c κs. search needs)
     (λ c κs. search needs)
     (λ c κs. search needs)
     (λ c κs. search needs)

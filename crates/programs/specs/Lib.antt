@@ -1,0 +1,4 @@
+pub mod Notary
+pub mod Room
+pub mod Laws
+pub mod Example

@@ -1,0 +1,3 @@
+// What a program prints, as a function of its input: only reading and writing are left to the program itself.
+pub mod notary;
+pub mod paper;
