@@ -13,11 +13,14 @@ mod kept;
 mod lessons;
 mod lines;
 mod noise;
+mod page;
 mod play;
+mod pointers;
 mod pty;
 mod reached;
 mod round;
 mod says;
+mod sitting;
 mod special;
 mod spell;
 mod terminal;
@@ -34,7 +37,7 @@ desk model [--scribe | --notary]               answers standard input as the des
 desk lines DESK SCRIBE [--lines N] [--seed S]  random and changed lines beside the model
     also --every N (one in N bad lines at the scribe; 3), --first (the first difference ends it)
 desk round SCRIBE NOTARY DESK [--commands N]   commands through words, bytes and back; desk beside NOTARY
-desk lessons DESK DIR [--write]                each lesson's script beside its transcript and page
+desk lessons DESK DIR [--write]                each lesson's script beside its transcript and page; --write: these anew
 desk terminal DESK                             at a pseudo-terminal, from there into a pipe, and line by line through a pipe
 desk faults                                    faults put into the model, each told by one of the tests above
 a program is a path, or words with spaces between them: the program and its arguments";
