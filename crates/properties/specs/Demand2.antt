@@ -9,7 +9,7 @@ use Rattle.keys.proofs.Laws.{parity-octets, notarized-alike}
 use Rattle.state.specs.State.{Bytes}
 use Rattle.rules.specs.Commands.{World, by, GDK, LDK, step, functionOf, withKey}
 use Rattle.properties.specs.Held.{IsActive, IsSmall, sidesOf, as-t, as-r, as-s, HasCurrent, currentKey, SharedKey, Gives, Same, Loaded, Leaves}
-use Rattle.properties.specs.Loads.{Means, means-t, means-r, means-s, gave, gives, done, gdk, ldk, key-t, key-r, key-s}
+use Rattle.properties.specs.Loads.{Means, means-t, means-r, means-s, gives, done, gdk, ldk, key-t, key-r, key-s}
 
 -- ---- the statement
 
@@ -62,14 +62,11 @@ module _ (F : World) (p i j : ℕ) (si : IsSmall i) (sj : IsSmall j) (b k : Byte
 -- ---- the theorem
 
 module _ (F : World) (i j p : ℕ) (bits out : Bytes) (x : Generates F i j p bits) where
-  gave-it : step F (by i (GDK j p bits)) out ≡ gave (enciphered (notarized (currentKey p F) i j) (parityOf bits)) out F
-  gave-it = gdk F i out (x .active) (x .small-i) j p (x .small-j) (x .current) bits
+  -- GDK gives the bits with parity set, enciphered under the interchange key notarized with (i, j)
+  pub generated : Gives F (enciphered (notarized (currentKey p F) i j) (parityOf bits)) out (step F (by i (GDK j p bits)) out)
+  generated = gives (gdk F i out (x .active) (x .small-i) j p (x .small-j) (x .current) bits)
 
-  -- GDK gives eight bytes
-  pub generated : Gives F out (step F (by i (GDK j p bits)) out)
-  generated = gives F out _ gave-it
-
-  -- and they give the key: the given bits with parity set
+  -- and from that both get the key: the bits with parity set
   pub recovered : Recovered F p i j (step F (by i (GDK j p bits)) out .answered .block) (parityOf bits)
   recovered =
-      sealed-recovered F p i j (x .small-i) (x .small-j) _ (parityOf bits) (parity-octets bits (x .random)) (ap (λ r. r .answered .block) gave-it)
+      sealed-recovered F p i j (x .small-i) (x .small-j) _ (parityOf bits) (parity-octets bits (x .random)) (generated .block)
