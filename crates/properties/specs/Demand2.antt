@@ -2,12 +2,16 @@
 -- at any facility where he is active and that interchange key is current."
 use mathlib.Core.Path.{_≡_, ap, ap₂, _∙_}
 use Prim.Native.Nat.{ℕ}
+use native.Mathlib.Omega.{arith}
+use borrow.Author.Tests.{ltb-false}
 use Rattle.cipher.specs.Cipher.{Octets, enciphered, deciphered}
 use Rattle.cipher.proofs.Promise.{deciphered-enciphered}
 use Rattle.keys.specs.Keys.{parityOf, notarized}
 use Rattle.keys.proofs.Laws.{parity-octets, notarized-alike}
 use Rattle.state.specs.State.{Bytes}
-use Rattle.rules.specs.Commands.{World, by, GDK, LDK, step, functionOf, withKey}
+use Rattle.table.specs.Passwords.{big}
+use Rattle.rules.specs.Commands.{World, by, GDK, LDK, step, refusals, bigPair, functionOf, withKey}
+use Rattle.properties.specs.Steps.{Accepted, accepted-first, next, not-false, pair-small}
 use Rattle.properties.specs.Held.{IsActive, IsSmall, sidesOf, as-t, as-r, as-s, HasCurrent, currentKey, SharedKey, Gives, Same, Loaded, Leaves}
 use Rattle.properties.specs.Loads.{Means, means-t, means-r, means-s, gives, done, gdk, ldk, key-t, key-r, key-s}
 
@@ -70,3 +74,19 @@ module _ (F : World) (i j p : ℕ) (bits out : Bytes) (x : Generates F i j p bit
   pub recovered : Recovered F p i j (step F (by i (GDK j p bits)) out .answered .block) (parityOf bits)
   recovered =
       sealed-recovered F p i j (x .small-i) (x .small-j) _ (parityOf bits) (parity-octets bits (x .random)) (generated .block)
+
+-- where GDK was accepted, its premises are met: they say no more than that
+pub accepted-generates : (F : World) (i j p : ℕ) (bits out : Bytes) → Octets bits → Accepted F i (GDK j p bits) out → Generates F i j p bits
+unfolding refusals big
+accepted-generates F i j p bits out o done =
+    let r1 = next (bigPair i j) 1 _ (λ z. omega arith) (accepted-first F i (GDK j p bits) out done) in
+    let r3 = next _ 3 _ (λ z. omega arith) (r1 .1) in
+    let r6 = next _ 6 0 (λ z. omega arith) (r3 .1) in
+    let s = pair-small i j (r1 .0) in
+    record {
+      active = not-false _ (r3 .0);
+      small-i = ltb-false 268435455 i (s .0);
+      small-j = ltb-false 268435455 j (s .1);
+      current = not-false _ (r6 .0);
+      random = o;
+    }
