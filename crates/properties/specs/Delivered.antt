@@ -2,17 +2,17 @@
 use mathlib.Core.Path.{_≡_}
 use Prim.Native.Nat.{ℕ}
 use lib.ListN.{length, take}
-use Rattle.cipher.specs.Cipher.{Way, ECB, CBC, CFB, enciphering, deciphering, modeText}
+use Rattle.cipher.specs.Cipher.{Way, ECB, CBC, CFB, enciphering, deciphering, enciphered, modeText}
 use Rattle.cipher.specs.declared.modes.Mode.{Mode}
 use Rattle.cipher.specs.declared.modes.Mode.the-variants.{Ecbe, Ecbd, Cbce, Cbcd, Cfbe, Cfbd}
-use Rattle.keys.specs.Keys.{parityOf}
+use Rattle.keys.specs.Keys.{parityOf, notarized}
 use Rattle.keys.proofs.Laws.{parity-octets}
 use Rattle.state.specs.State.{Bytes}
 use Rattle.rules.specs.declared.Answer.the-variants.{Done, Gave, Wrote}
 use Rattle.rules.specs.World.{World}
 use Rattle.rules.specs.Commands.{by, GDK, LDK, GIV, LIV, mode}
 use Rattle.rules.specs.Step.{Result, step}
-use Rattle.properties.specs.Held.{IsActive, IsSmall, as-t, as-r, HasCurrent, SharedKey, Brought, Same, Loaded, Vectored, Leaves}
+use Rattle.properties.specs.Held.{IsActive, IsSmall, as-t, as-r, HasCurrent, currentKey, SharedKey, Brought, Same, Loaded, Vectored, Leaves}
 use Rattle.properties.specs.Demand2.{Generates, Recovered, recovered}
 use Rattle.properties.specs.Walk.{then-equipped, Walked, walked}
 use Rattle.properties.specs.Coded.{Opened, Sent, sent}
@@ -83,9 +83,12 @@ module _ (F G : World) (i j p q : ℕ) (bits seed text out out′ : Bytes) where
       pub ldk-r-done : ldk-r .answered .answer ≡ Done
       pub liv-r-done : liv-r .answered .answer ≡ Done
       pub d-writes : d .answered .answer ≡ Wrote (length text)
-      -- what goes from F to G is the text by E, under the given bits with parity set, from the given seed with parity set
-      pub between : cipher ≡ modeText E (parityOf bits) (parityOf seed) text
-      -- and what j gets is the text
+      -- what goes from F to G: the bits with parity set, under the interchange key notarized with (i, j); the seed with parity set, under those bits;
+      -- and the text by E, under those bits, from that seed
+      pub key-sealed : key-block ≡ enciphered (notarized (currentKey p F) i j) (parityOf bits)
+      pub vector-sealed : vector-block ≡ enciphered (parityOf bits) (parityOf seed)
+      pub text-sealed : cipher ≡ modeText E (parityOf bits) (parityOf seed) text
+      -- what j gets is the text
       pub delivered : take (length text) (d .answered .output) ≡ text
 
   -- ---- the proof: demand 2 for the key, then for the vector, then the text
@@ -144,7 +147,9 @@ module _ (F G : World) (i j p q : ℕ) (bits seed text out out′ : Bytes) where
             ldk-r-done = keyed .done;
             liv-r-done = set .done;
             d-writes = opened .answer;
-            between = coded .cipher-is;
+            key-sealed = at-F .gave .block;
+            vector-sealed = at-F .began .block;
+            text-sealed = coded .cipher-is;
             delivered = opened .text-is;
           }
 

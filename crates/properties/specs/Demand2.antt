@@ -2,17 +2,22 @@
 -- at any facility where he is active and that interchange key is current."
 use mathlib.Core.Path.{_≡_, ap, ap₂, _∙_}
 use Prim.Native.Nat.{ℕ}
+use native.Mathlib.Omega.{arith}
+use borrow.Author.Tests.{ltb-false}
 use Rattle.cipher.specs.Cipher.{Octets, enciphered, deciphered}
 use Rattle.cipher.proofs.Promise.{deciphered-enciphered}
 use Rattle.keys.specs.Keys.{parityOf, notarized}
 use Rattle.keys.proofs.Laws.{parity-octets, notarized-alike}
 use Rattle.state.specs.State.{Bytes}
+use Rattle.table.specs.Passwords.{big}
 use Rattle.rules.specs.World.{World}
 use Rattle.rules.specs.Sides.{functionOf, withKey}
-use Rattle.rules.specs.Commands.{by, GDK, LDK}
+use Rattle.rules.specs.Refusals.{bigPair}
+use Rattle.rules.specs.Commands.{by, GDK, LDK, refusals}
 use Rattle.rules.specs.Step.{step}
+use Rattle.properties.specs.Steps.{Accepted, accepted-first, next, not-false, pair-small}
 use Rattle.properties.specs.Held.{IsActive, IsSmall, sidesOf, as-t, as-r, as-s, HasCurrent, currentKey, SharedKey, Gives, Same, Loaded, Leaves}
-use Rattle.properties.specs.Loads.{Means, means-t, means-r, means-s, gave, gives, done, gdk, ldk, key-t, key-r, key-s}
+use Rattle.properties.specs.Loads.{Means, means-t, means-r, means-s, gives, done, gdk, ldk, key-t, key-r, key-s}
 
 -- ---- the statement
 
@@ -65,14 +70,27 @@ module _ (F : World) (p i j : ℕ) (si : IsSmall i) (sj : IsSmall j) (b k : Byte
 -- ---- the theorem
 
 module _ (F : World) (i j p : ℕ) (bits out : Bytes) (x : Generates F i j p bits) where
-  gave-it : step F (by i (GDK j p bits)) out ≡ gave (enciphered (notarized (currentKey p F) i j) (parityOf bits)) out F
-  gave-it = gdk F i out (x .active) (x .small-i) j p (x .small-j) (x .current) bits
+  -- GDK gives the bits with parity set, enciphered under the interchange key notarized with (i, j)
+  pub generated : Gives F (enciphered (notarized (currentKey p F) i j) (parityOf bits)) out (step F (by i (GDK j p bits)) out)
+  generated = gives (gdk F i out (x .active) (x .small-i) j p (x .small-j) (x .current) bits)
 
-  -- GDK gives eight bytes
-  pub generated : Gives F out (step F (by i (GDK j p bits)) out)
-  generated = gives F out _ gave-it
-
-  -- and they give the key: the given bits with parity set
+  -- and from that both get the key: the bits with parity set
   pub recovered : Recovered F p i j (step F (by i (GDK j p bits)) out .answered .block) (parityOf bits)
   recovered =
-      sealed-recovered F p i j (x .small-i) (x .small-j) _ (parityOf bits) (parity-octets bits (x .random)) (ap (λ r. r .answered .block) gave-it)
+      sealed-recovered F p i j (x .small-i) (x .small-j) _ (parityOf bits) (parity-octets bits (x .random)) (generated .block)
+
+-- where GDK was accepted, its premises are met: they say no more than that
+pub accepted-generates : (F : World) (i j p : ℕ) (bits out : Bytes) → Octets bits → Accepted F i (GDK j p bits) out → Generates F i j p bits
+unfolding refusals big
+accepted-generates F i j p bits out o done =
+    let r1 = next (bigPair i j) 1 _ (λ z. omega arith) (accepted-first F i (GDK j p bits) out done) in
+    let r3 = next _ 3 _ (λ z. omega arith) (r1 .1) in
+    let r6 = next _ 6 0 (λ z. omega arith) (r3 .1) in
+    let s = pair-small i j (r1 .0) in
+    record {
+      active = not-false _ (r3 .0);
+      small-i = ltb-false 268435455 i (s .0);
+      small-j = ltb-false 268435455 j (s .1);
+      current = not-false _ (r6 .0);
+      random = o;
+    }

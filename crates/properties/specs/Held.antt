@@ -83,10 +83,11 @@ pub record Brought (bits seed text out out′ : Bytes) : Type 0 where
   pub room : length text ≤ length out
   pub room′ : length text ≤ length out′
 
--- ---- eight bytes in the reply, and nothing altered
+-- ---- the eight bytes b in the reply, and nothing altered
 
-pub record Gives (w : World) (out : Bytes) (r : Result) : Type 0 where
+pub record Gives (w : World) (b out : Bytes) (r : Result) : Type 0 where
   pub answer : r .answered .answer ≡ Gave 8
+  pub block : r .answered .block ≡ b
   pub output : r .answered .output ≡ out
   pub world : r .world ≡ w
 

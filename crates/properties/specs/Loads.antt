@@ -25,12 +25,18 @@ pub small : (u : ℕ) → IsSmall u → big u ≡ false
 unfolding big
 small u l = le-ltb 268435455 u l
 
--- eight bytes given, and nothing altered
+-- the eight bytes b given, and nothing altered
 abbrev pub gave : Bytes → Bytes → World → Result
 gave b out w = result (record { answer = Gave 8; block = b; output = out }) w
 
-pub gives : (w : World) (out : Bytes) (r : Result) {b : Bytes} → r ≡ gave b out w → Gives w out r
-gives w out r e = record { answer = ap (λ x. x .answered .answer) e; output = ap (λ x. x .answered .output) e; world = ap (λ x. x .world) e }
+pub gives : {w : World} {b out : Bytes} {r : Result} → r ≡ gave b out w → Gives w b out r
+gives {w} {b} {out} {r} e =
+    record {
+      answer = ap (λ x. x .answered .answer) e;
+      block = ap (λ x. x .answered .block) e;
+      output = ap (λ x. x .answered .output) e;
+      world = ap (λ x. x .world) e;
+    }
 
 -- done, and u then holds h
 abbrev pub done : World → ℕ → Bytes → Holdings → Result

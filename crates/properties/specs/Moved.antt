@@ -17,9 +17,11 @@ use Rattle.properties.specs.Demand2.{Recovered, Generates, sealed-recove
 
 -- the block b of the pair (i, j), moved at F, where the interchange p has both its keys: by the sender as t, by the receiver as r, by who is both as s
 module _ (F : World) (p i j : ℕ) (b : Bytes) where
-  -- the reply is eight bytes, which give the key k under the current key
+  -- the reply is the key k enciphered under the current key, notarized with (i, j); and from that both get k
   abbrev pub Moves : (f u v : ℕ) → (k out : Bytes) → Type 0
-  Moves f u v k out = Gives F out (step F (by u (RDK v p f b)) out) × Recovered F p i j (step F (by u (RDK v p f b)) out .answered .block) k
+  Moves f u v k out =
+      Gives F (enciphered (notarized (currentKey p F) i j) k) out (step F (by u (RDK v p f b)) out)
+      × Recovered F p i j (step F (by u (RDK v p f b)) out .answered .block) k
 
   pub record Moved (k : Bytes) : Type 0 where
     pub by-sender : (out : Bytes) → (i ≡ j → ⊥) → IsActive i F → Moves as-t i j k out
@@ -35,9 +37,8 @@ module _ (F : World) (p i j : ℕ) (b : Bytes) where
 
     moves : (f u v : ℕ) → IsSmall u → IsSmall v → IsActive u F → Means f u v i j → (out : Bytes) → Moves f u v k out
     moves f u v su sv a m out =
-        let e : step F (by u (RDK v p f b)) out ≡ gave (enciphered (notarized (currentKey p F) i j) k) out F =
-        rdk F u out a su v p sv current f i j m b old ∙ ap (λ (x : Bytes). gave (enciphered (notarized (currentKey p F) i j) x) out F) is in
-        (gives F out _ e, sealed-recovered F p i j si sj _ k eight (ap (λ r. r .answered .block) e))
+        let g = gives (rdk F u out a su v p sv current f i j m b old ∙ ap (λ (x : Bytes). gave (enciphered (notarized (currentKey p F) i j) x) out F) is) in
+        (g, sealed-recovered F p i j si sj _ k eight (g .block))
 
     moved-is : Moved k
     moved-is =

@@ -2,17 +2,17 @@
 use mathlib.Core.Path.{_≡_, refl, sym, subst}
 use Prim.Native.Nat.{ℕ}
 use lib.ListN.{length, take}
-use Rattle.cipher.specs.Cipher.{Way, ECB, CBC, CFB, enciphering, deciphering, modeText}
+use Rattle.cipher.specs.Cipher.{Way, ECB, CBC, CFB, enciphering, deciphering, enciphered, modeText}
 use Rattle.cipher.specs.declared.modes.Mode.{Mode}
 use Rattle.cipher.specs.declared.modes.Mode.the-variants.{Ecbe, Ecbd, Cbce, Cbcd, Cfbe, Cfbd}
-use Rattle.keys.specs.Keys.{parityOf}
+use Rattle.keys.specs.Keys.{parityOf, notarized}
 use Rattle.keys.proofs.Laws.{parity-octets}
 use Rattle.state.specs.State.{Bytes}
 use Rattle.rules.specs.declared.Answer.the-variants.{Done, Gave, Wrote}
 use Rattle.rules.specs.World.{World}
 use Rattle.rules.specs.Commands.{by, GDK, LDK, GIV, LIV, mode}
 use Rattle.rules.specs.Step.{Result, step}
-use Rattle.properties.specs.Held.{IsActive, IsSmall, as-s, HasCurrent, Brought, Loaded, Vectored}
+use Rattle.properties.specs.Held.{IsActive, IsSmall, as-s, HasCurrent, currentKey, Brought, Loaded, Vectored}
 use Rattle.properties.specs.Demand2.{Generates, Recovered, recovered}
 use Rattle.properties.specs.Coded.{Equipped, Opened, Sent, sent}
 use Rattle.properties.specs.Walk.{then-equipped, Walked, walked}
@@ -63,9 +63,12 @@ module _ (F : World) (i p : ℕ) (bits seed text out out′ : Bytes) where
       pub liv-s-done : liv-s .answered .answer ≡ Done
       pub e-writes : e .answered .answer ≡ Wrote (length text)
       pub d-writes : d .answered .answer ≡ Wrote (length text)
-      -- the cipher text is the text by E, under the given bits with parity set, from the given seed with parity set
-      pub between : cipher ≡ modeText E (parityOf bits) (parityOf seed) text
-      -- and what he gets is the text
+      -- what he keeps: the bits with parity set, under the interchange key notarized with (i, i); the seed with parity set, under those bits;
+      -- and the text by E, under those bits, from that seed
+      pub key-sealed : gdk .answered .block ≡ enciphered (notarized (currentKey p F) i i) (parityOf bits)
+      pub vector-sealed : giv .answered .block ≡ enciphered (parityOf bits) (parityOf seed)
+      pub text-sealed : cipher ≡ modeText E (parityOf bits) (parityOf seed) text
+      -- what he gets is the text
       pub delivered : take (length text) (d .answered .output) ≡ text
 
   -- ---- the proof
@@ -116,7 +119,9 @@ module _ (F : World) (i p : ℕ) (bits seed text out out′ : Bytes) where
             liv-s-done = at-F .set .done;
             e-writes = coded .answer;
             d-writes = opened .answer;
-            between = coded .cipher-is;
+            key-sealed = at-F .gave .block;
+            vector-sealed = at-F .began .block;
+            text-sealed = coded .cipher-is;
             delivered = opened .text-is;
           }
 

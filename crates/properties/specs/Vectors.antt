@@ -48,16 +48,12 @@ module _ (k b v : Bytes) (o : Octets v) (is : b ≡ enciphered k v) where
 -- ---- the theorems: i is active at F, and has the key k to transmit
 
 module _ (F : World) (i : ℕ) (k out : Bytes) (active : IsActive i F) (si : IsSmall i) (key : sidesOf i F .transmit .key ≡ heldKey k) where
-  -- GIV: the given bits with parity set
+  -- GIV gives the bits with parity set, enciphered under k; and from that all get the vector: the bits with parity set
   pub given : (seed : Bytes) → Octets seed
-      → Gives F out (step F (by i (GIV seed)) out) × OneVector k (step F (by i (GIV seed)) out .answered .block) (parityOf seed)
-  given seed o =
-      let e = giv F i out active si k key seed in
-      (gives F out _ e, sealed-vector k _ (parityOf seed) (parity-octets seed o) (ap (λ r. r .answered .block) e))
+      → Gives F (enciphered k (parityOf seed)) out (step F (by i (GIV seed)) out) × OneVector k (step F (by i (GIV seed)) out .answered .block) (parityOf seed)
+  given seed o = let g = gives (giv F i out active si k key seed) in (g, sealed-vector k _ (parityOf seed) (parity-octets seed o) (g .block))
 
-  -- EIV: the given block as it is
+  -- EIV the same, of the given block as it is
   pub as-it-is : (b : Bytes) → Octets b
-      → Gives F out (step F (by i (EIV b)) out) × OneVector k (step F (by i (EIV b)) out .answered .block) b
-  as-it-is b o =
-      let e = eiv F i out active si k key b in
-      (gives F out _ e, sealed-vector k _ b o (ap (λ r. r .answered .block) e))
+      → Gives F (enciphered k b) out (step F (by i (EIV b)) out) × OneVector k (step F (by i (EIV b)) out .answered .block) b
+  as-it-is b o = let g = gives (eiv F i out active si k key b) in (g, sealed-vector k _ b o (g .block))

@@ -1,14 +1,14 @@
 -- The sender's way to a key and a vector, by GDK, LDK, GIV, LIV: walked once for whoever loads as t, to transmit, and for whoever loads as s, on both sides.
 use mathlib.Core.Path.{_≡_, refl, sym, _∙_, subst}
 use Prim.Native.Nat.{ℕ}
-use Rattle.cipher.specs.Cipher.{Octets}
-use Rattle.keys.specs.Keys.{parityOf}
+use Rattle.cipher.specs.Cipher.{Octets, enciphered}
+use Rattle.keys.specs.Keys.{parityOf, notarized}
 use Rattle.state.specs.declared.Side.{Side}
 use Rattle.state.specs.State.{Bytes}
 use Rattle.rules.specs.World.{World}
 use Rattle.rules.specs.Commands.{by, GDK, LDK, GIV, LIV}
 use Rattle.rules.specs.Step.{Result, step}
-use Rattle.properties.specs.Held.{IsActive, sidesOf, heldKey, SharedKey, Gives, Loaded, Vectored, Leaves}
+use Rattle.properties.specs.Held.{IsActive, sidesOf, heldKey, currentKey, SharedKey, Gives, Loaded, Vectored, Leaves}
 use Rattle.properties.specs.Demand2.{Generates, generated}
 use Rattle.properties.specs.Vectors.{OneVector, given}
 use Rattle.properties.specs.Coded.{Equipped}
@@ -39,9 +39,9 @@ module _ (F : World) (i j p f : ℕ) (bits seed out : Bytes) (R R′ : Side → 
 
   -- GIV alters nothing, so that LIV follows LDK
   pub record Walked : Type 0 where
-    pub gave : Gives F out gdk
+    pub gave : Gives F (enciphered (notarized (currentKey p F) i j) key) out gdk
     pub keyed : Leaves (Loaded key) R i (gdk .world) ldk
-    pub began : Gives (ldk .world) out giv
+    pub began : Gives (ldk .world) (enciphered key vector) out giv
     pub set : Leaves (Vectored vector) R′ i (ldk .world) liv
     -- what GIV gave is worth the vector to others too, and i is equipped to transmit
     pub one-vector : OneVector key (giv .answered .block) vector
@@ -52,7 +52,7 @@ module _ (F : World) (i j p f : ℕ) (bits seed out : Bytes) (R R′ : Side → 
       (by-ldk : (W : World) → SharedKey F p W p → IsActive i W → Leaves (Loaded key) R i W (step W (by i (LDK j p f (gdk .answered .block))) out))
       (by-liv : (W : World) (b : Bytes) → OneVector key b vector → IsActive i W → sidesOf i W .transmit .key ≡ heldKey key
       → Leaves (Vectored vector) R′ i W (step W (by i (LIV f b)) out)) where
-    after-gdk : Gives F out gdk
+    after-gdk : Gives F (enciphered (notarized (currentKey p F) i j) key) out gdk
     after-gdk = generated F i j p bits out x
 
     after-ldk : Leaves (Loaded key) R i (gdk .world) ldk
@@ -61,7 +61,7 @@ module _ (F : World) (i j p f : ℕ) (bits seed out : Bytes) (R R′ : Side → 
         let own : SharedKey F p F p = record { current = x .current; alike = refl } in
         by-ldk (gdk .world) (subst (λ (w : World). SharedKey F p w p) same own) (subst (IsActive i) same (x .active))
 
-    after-giv : Gives (ldk .world) out giv × OneVector key (giv .answered .block) vector
+    after-giv : Gives (ldk .world) (enciphered key vector) out giv × OneVector key (giv .answered .block) vector
     after-giv = given (ldk .world) i key out (after-ldk .active) (x .small-i) (after-ldk .to-transmit .key) seed o
 
     after-liv : Leaves (Vectored vector) R′ i (ldk .world) liv
