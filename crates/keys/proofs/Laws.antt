@@ -1,5 +1,5 @@
--- What the functions compute, entry by entry. Setting parity and notarizing leave eight bytes, each with an odd number of ones; the parity that a key had is
--- ignored; and setting parity changes exactly those keys that have a byte with an even number of ones.
+-- What the functions compute, entry by entry. Setting parity and notarizing leave eight bytes, each with an odd number of ones; setting parity leaves a byte as it
+-- is exactly where it has such a number already; and the parity that a key had plays no part in notarizing.
 use mathlib.Core.Path.{_≡_, refl, sym, ap, ap₂, _∙_}
 use mathlib.Core.Bool.{true}
 use mathlib.Core.List.{List, [], _∷_, _++_, map}
