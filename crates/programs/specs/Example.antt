@@ -123,7 +123,7 @@ lines r =
 pub worked-example : notary input ≡ output
 unfolding notary stream start ranFrom carryOn fieldAt lengthAt row
     answerTo decoded ended readAll readOne took isArgument hasSize filled begun blank formOf argumentsOf padded performed rows
-    step tests rule refusals modeRefusals modeSide effect test outOfTurn ofOwn bigPair big fits same parityOf odd digits
+    step tests rule refusals modeSide effect test outOfTurn ofOwn bigPair big fits same parityOf odd digits
     keyed rekeyed named keyAt seatOf give bare lacksEntry entryOf entryIn idOf
     transcript line decimal decimalIn hexByte hexDigit shown
 worked-example = ap lines admitted
