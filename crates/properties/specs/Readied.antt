@@ -15,12 +15,12 @@ use Rattle.state.specs.State.{Bytes, bare, find, give, seatOf, withPlaces, fres
 use Rattle.table.specs.Entries.{fits, idOf, entryIn, entryOf, enrolIn, enrolled}
 use Rattle.table.specs.Passwords.{big, same, sealed}
 use Rattle.table.proofs.Laws.{sealed-eight}
-use Rattle.rules.specs.World.{World, over}
+use Rattle.rules.specs.World.{World, over, key1}
 use Rattle.rules.specs.Refusals.{firstOf, test, ofOwn, lacksEntry}
 use Rattle.rules.specs.Commands.{by, EIK, IPW, RAS, tests, effect, keyed}
 use Rattle.rules.specs.Step.{step}
 use Rattle.properties.specs.Steps.{Performed, accepted-first, done-step, settled-first, settled-done}
-use Rattle.properties.specs.Passwords.{key1, Inactive, Room, ipw-stands, ras-done}
+use Rattle.properties.specs.Passwords.{Inactive, Room, ipw-stands, ras-done}
 use Rattle.properties.specs.Held.{Brought}
 use Rattle.properties.specs.Others.{holding}
 use Rattle.properties.specs.Delivered.{Premises, Delivered, delivered}
