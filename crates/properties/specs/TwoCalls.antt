@@ -4,7 +4,7 @@ use mathlib.Core.Path.{_≡_, refl, sym, ap, _∙_, subst}
 use mathlib.Core.Bool.{true, false, not, false≢true}
 use mathlib.Core.Option.{Option, none, some}
 use mathlib.Core.List.{_++_}
-use Prim.Native.Nat.{ℕ, _+_, _%_, _≤_}
+use Prim.Native.Nat.{ℕ, _+_, _≤_, _<_}
 use native.Mathlib.Omega.{arith}
 use lib.Dec.{eqb}
 use lib.ListN.{length, take, length-append}
@@ -77,11 +77,11 @@ unfolding seatOf
 holdings-of none a = absurd (false≢true a)
 holdings-of (some h) a = (h, refl)
 
--- u calls the mode m with the data d, then with e; or once with both. The data of each call is some whole blocks, each output has room for it, and both
--- together are at most 32768 bytes. (That data is bytes, and a vector eight of them, is by their types.)
-module _ (w : World) (u : ℕ) (m : Mode) (d e out₁ out₂ out : Bytes) (good₁ : badBlocks (length d) ≡ false) (good₂ : badBlocks (length e) ≡ false)
+-- u calls the mode m with the data d, then with e; or once with both. Each is some whole blocks, each output has room for what it gets, and both together
+-- are at most 32768 bytes. (That a vector is eight bytes is by its type.)
+module _ (w : World) (u : ℕ) (m : Mode) (d e out₁ out₂ out : Bytes) (d-blocks : Whole d) (d-some : 0 < length d) (e-blocks : Whole e) (e-some : 0 < length e)
     (room₁ : length d ≤ length out₁) (room₂ : length e ≤ length out₂) (room : length (d ++ e) ≤ length out) (limit : length (d ++ e) ≤ 32768)
-    (bytes : Below 256 d) (eight : Octets (modeSide m (own u w .seat .holdings) .vector .vector .0)) where
+    (eight : Octets (modeSide m (own u w .seat .holdings) .vector .vector .0)) where
   abbrev pub first : Result
   first = step w (by u (mode m d)) out₁
 
@@ -91,13 +91,17 @@ module _ (w : World) (u : ℕ) (m : Mode) (d e out₁ out₂ out : Bytes) (good�
   abbrev pub joined : Result
   joined = step w (by u (mode m (d ++ e))) out
 
+  both : length (d ++ e) ≡ length d + length e
+  both = length-append d e
+
+  good₁ : badBlocks (length d) ≡ false
+  good₁ = good (length d) (λ q. omega arith) (omega (arith, both)) (d-blocks .blocks)
+
+  good₂ : badBlocks (length e) ≡ false
+  good₂ = good (length e) (λ q. omega arith) (omega (arith, both)) (e-blocks .blocks)
+
   good-joined : badBlocks (length (d ++ e)) ≡ false
-  good-joined =
-      let l : length (d ++ e) ≡ length d + length e = length-append d e in
-      let x : length d % 8 ≡ 0 = good-blocks (length d) good₁ in
-      let y : length e % 8 ≡ 0 = good-blocks (length e) good₂ in
-      let z : length (d ++ e) % 8 ≡ 0 = omega arith in
-      good (length (d ++ e)) (λ q. some-bytes (length d) good₁ (omega arith)) limit z
+  good-joined = good (length (d ++ e)) (λ q. omega (arith, both)) limit (omega (arith, both, d-blocks .blocks, e-blocks .blocks))
 
   reply-first-call : reply first ≡ sideNumber w u m
   reply-first-call = reply-by-side w u m d out₁ good₁ room₁
@@ -144,7 +148,7 @@ module _ (w : World) (u : ℕ) (m : Mode) (d e out₁ out₂ out : Bytes) (good�
     octets = subst (λ (s : Option Holdings). Octets (modeSide m (seatOf s .holdings) .vector .vector .0)) (active-then .1) eight
 
     still : find u (first .world .facility .places) ≡ some (held m holds d)
-    still = last-cipher-block w u m d out₁ holds (active-then .1) octets bytes one .0
+    still = last-cipher-block w u m d out₁ holds (active-then .1) octets (d-blocks .small) one .0
 
     two : Accepted (first .world) u (mode m e) out₂
     two =
@@ -169,14 +173,14 @@ module _ (w : World) (u : ℕ) (m : Mode) (d e out₁ out₂ out : Bytes) (good�
   same-world =
       byTest (eqb (sideNumber w u m) 0)
       (λ t. let z = eqb-true (sideNumber w u m) 0 t in
-      sym (joined-world w u m d e out₁ out₂ (holds z) (active-then z .1) (octets z) bytes (one z) (two z) out limit room))
+      sym (joined-world w u m d e out₁ out₂ (holds z) (active-then z .1) (octets z) (d-blocks .small) (one z) (two z) out limit room))
       (λ f. refused-world (eqb-false (sideNumber w u m) 0 f))
 
   same-text : reply joined ≡ 0
       → take (length d) (first .answered .output) ++ take (length e) (second .answered .output) ≡ take (length (d ++ e)) (joined .answered .output)
   same-text done =
       let z = sym reply-joined ∙ done in
-      sym (joined-text w u m d e out₁ out₂ (holds z) (active-then z .1) (octets z) bytes (one z) (two z) out limit room)
+      sym (joined-text w u m d e out₁ out₂ (holds z) (active-then z .1) (octets z) (d-blocks .small) (one z) (two z) out limit room)
 
   -- two calls equal one: they have its reply, so that both are accepted exactly if the one is; they leave its world; and where they are, what they wrote,
   -- joined, is what it wrote
