@@ -1,8 +1,8 @@
--- Demand 2 from end to end, in commands, replies and bytes alone: what i enciphers under a key that he made for j, j deciphers, at whatever facility he sits.
+-- Demand 2 from end to end, in commands, replies and the bytes that go between: what i enciphers under a key that he made for j, j deciphers, at whatever facility he sits.
 use mathlib.Core.Path.{_≡_}
 use Prim.Native.Nat.{ℕ}
 use lib.ListN.{length, take}
-use Rattle.cipher.specs.Cipher.{Way, ECB, CBC, CFB, enciphering, deciphering, enciphered, modeText}
+use Rattle.cipher.specs.Cipher.{Way, ECB, CBC, CFB, enciphering, deciphering, enciphered, modeText, fixity}
 use Rattle.cipher.specs.declared.modes.Mode.{Mode}
 use Rattle.cipher.specs.declared.modes.Mode.the-variants.{Ecbe, Ecbd, Cbce, Cbcd, Cfbe, Cfbd}
 use Rattle.keys.specs.Keys.{parityOf, notarized}
@@ -10,12 +10,13 @@ use Rattle.keys.proofs.Laws.{parity-octets}
 use Rattle.state.specs.State.{Bytes}
 use Rattle.rules.specs.declared.Answer.the-variants.{Done, Gave, Wrote}
 use Rattle.rules.specs.World.{World}
-use Rattle.rules.specs.Commands.{by, GDK, LDK, GIV, LIV, mode}
+use Rattle.rules.specs.Commands.{by, GDK, LDK, GIV, LIV, DAUT, mode}
 use Rattle.rules.specs.Step.{Result, step}
-use Rattle.properties.specs.Held.{IsActive, IsSmall, as-t, as-r, HasCurrent, currentKey, SharedKey, Brought, Same, Loaded, Vectored, Leaves}
+use Rattle.properties.specs.Held.{IsActive, IsSmall, as-t, as-r, HasCurrent, currentKey, SharedKey, Brought, GoodText, Gives, sidesOf, Same, Loaded, Vectored, Leaves}
 use Rattle.properties.specs.Demand2.{Generates, Recovered, recovered}
 use Rattle.properties.specs.Walk.{then-equipped, Walked, walked}
-use Rattle.properties.specs.Coded.{Opened, Sent, sent}
+use Rattle.properties.specs.Coded.{Equipped, Opened, Sent, sent}
+use Rattle.properties.specs.Valued.{value-t, value-r}
 
 -- i sits at F, j at G. i makes a key of the bits and a vector of the seed, over the interchange that F calls p and G calls q, and sends the text
 module _ (F G : World) (i j p q : ℕ) (bits seed text out out′ : Bytes) where
@@ -89,7 +90,10 @@ module _ (F G : World) (i j p q : ℕ) (bits seed text out out′ : Bytes) where
       pub vector-sealed : vector-block ≡ enciphered (parityOf bits) (parityOf seed)
       pub text-sealed : cipher ≡ modeText E (parityOf bits) (parityOf seed) text
       -- what j gets is the text
-      pub delivered : take (length text) (d .answered .output) ≡ text
+      pub text-back : take (length text) (d .answered .output) ≡ text
+      -- and its fixity value, taken before it is enciphered and before it is deciphered, is one for both: under those bits, from that seed, over the plain text
+      pub value-t : Gives (liv-t .world) (fixity (parityOf bits) (parityOf seed) text) out (step (liv-t .world) (by i (DAUT as-t text)) out)
+      pub value-r : Gives (liv-r .world) (fixity (parityOf bits) (parityOf seed) text) out′ (step (liv-r .world) (by j (DAUT as-r text)) out′)
 
   -- ---- the proof: demand 2 for the key, then for the vector, then the text
 
@@ -101,7 +105,7 @@ module _ (F G : World) (i j p q : ℕ) (bits seed text out out′ : Bytes) where
     vector = parityOf seed
 
     generates : Generates F i j p bits
-    generates = record { active = x .sender; small-i = x .small-i; small-j = x .small-j; current = x .current; random = x .brought .bits-eight }
+    generates = record { active = x .sender; small-i = x .small-i; small-j = x .small-j; current = x .current; bits-eight = x .brought .bits-eight }
 
     key-given : Recovered F p i j (step F (by i (GDK j p bits)) out .answered .block) key
     key-given = recovered F i j p bits out generates
@@ -136,6 +140,12 @@ module _ (F G : World) (i j p q : ℕ) (bits seed text out out′ : Bytes) where
           coded .opens (liv-r E D .world) j out′ (set .active) (x .small-j) (then-equipped key vector (keyed .to-receive) (set .to-receive))
           (parity-octets seed (x .brought .seed-eight)) (x .brought .room′)
 
+      j-equipped : Equipped key vector (sidesOf j (liv-r E D .world) .receive)
+      j-equipped = then-equipped key vector (keyed .to-receive) (set .to-receive)
+
+      good : GoodText text
+      good = x .brought .good-text
+
       goes-through : Delivered E D
       goes-through =
           record {
@@ -150,7 +160,9 @@ module _ (F G : World) (i j p q : ℕ) (bits seed text out out′ : Bytes) where
             key-sealed = at-F .gave .block;
             vector-sealed = at-F .began .block;
             text-sealed = coded .cipher-is;
-            delivered = opened .text-is;
+            text-back = opened .text-is;
+            value-t = value-t (liv-t E D .world) i key vector text out (at-F .set .active) (x .small-i) (good .some-bytes) (good .limit) (at-F .equipped);
+            value-r = value-r (liv-r E D .world) j key vector text out′ (set .active) (x .small-j) (good .some-bytes) (good .limit) j-equipped;
           }
 
     -- by ECB, by CBC and by CFB

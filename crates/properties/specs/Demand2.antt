@@ -40,7 +40,7 @@ pub record Generates (F : World) (i j p : ℕ) (bits : Bytes) : Type 0 where
   pub small-i : IsSmall i
   pub small-j : IsSmall j
   pub current : HasCurrent p F
-  pub random : Octets bits
+  pub bits-eight : Octets bits
 
 -- ---- the proof
 
@@ -77,7 +77,7 @@ module _ (F : World) (i j p : ℕ) (bits out : Bytes) (x : Generates F i j p bit
   -- and from that both get the key: the bits with parity set
   pub recovered : Recovered F p i j (step F (by i (GDK j p bits)) out .answered .block) (parityOf bits)
   recovered =
-      sealed-recovered F p i j (x .small-i) (x .small-j) _ (parityOf bits) (parity-octets bits (x .random)) (generated .block)
+      sealed-recovered F p i j (x .small-i) (x .small-j) _ (parityOf bits) (parity-octets bits (x .bits-eight)) (generated .block)
 
 -- where GDK was accepted, its premises are met: they say no more than that
 pub accepted-generates : (F : World) (i j p : ℕ) (bits out : Bytes) → Octets bits → Accepted F i (GDK j p bits) out → Generates F i j p bits
@@ -92,5 +92,5 @@ accepted-generates F i j p bits out o done =
       small-i = ltb-false 268435455 i (s .0);
       small-j = ltb-false 268435455 j (s .1);
       current = not-false _ (r6 .0);
-      random = o;
+      bits-eight = o;
     }

@@ -13,9 +13,11 @@ pub mod Calls
 pub mod Texts
 pub mod Tables
 pub mod Passwords
+pub mod Offices
 pub mod Reencrypted
 pub mod Joined
 pub mod Coded
+pub mod Valued
 pub mod Walk
 pub mod Delivered
 pub mod Oneself

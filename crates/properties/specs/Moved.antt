@@ -63,4 +63,4 @@ generated-moved E F q p i j bits out x current old alike =
     let e = ap (λ r. r .answered .block) (gdk E i out (x .active) (x .small-i) j q (x .small-j) (x .current) bits) in
     moved-is F p i j _ (x .small-i) (x .small-j) current old (parityOf bits)
     (ap₂ deciphered (notarized-alike (oldKey p F) (currentKey q E) i j alike) e
-    ∙ deciphered-enciphered (notarized (currentKey q E) i j) (parityOf bits) (parity-octets bits (x .random)))
+    ∙ deciphered-enciphered (notarized (currentKey q E) i j) (parityOf bits) (parity-octets bits (x .bits-eight)))

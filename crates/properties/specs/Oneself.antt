@@ -81,7 +81,7 @@ module _ (F : World) (i p : ℕ) (bits seed text out out′ : Bytes) where
     vector = parityOf seed
 
     generates : Generates F i i p bits
-    generates = record { active = x .user; small-i = x .small-i; small-j = x .small-i; current = x .current; random = x .brought .bits-eight }
+    generates = record { active = x .user; small-i = x .small-i; small-j = x .small-i; current = x .current; bits-eight = x .brought .bits-eight }
 
     key-given : Recovered F p i i (step F (by i (GDK i p bits)) out .answered .block) key
     key-given = recovered F i i p bits out generates

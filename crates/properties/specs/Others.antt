@@ -52,7 +52,7 @@ leave-other v u ps d = put-other v u vacant ps d refl
 
 -- ---- any command of u
 
-carry-other : (v u : ℕ) → eqb v u ≡ false → (e : Effect) (w : World) → find v (carry u e w .facility .places) ≡ find v (w .facility .places)
+pub carry-other : (v u : ℕ) → eqb v u ≡ false → (e : Effect) (w : World) → find v (carry u e w .facility .places) ≡ find v (w .facility .places)
 carry-other v u d (refused n) w = refl
 carry-other v u d (gives n b) w = refl
 carry-other v u d (keeps h) w = give-other v u h (w .facility .places) d
@@ -60,13 +60,29 @@ carry-other v u d leaves w = leave-other v u (w .facility .places) d
 carry-other v u d (enters password) w = refl
 carry-other v u d (writes b h) w = give-other v u h (w .facility .places) d
 
-carry-keys : (u : ℕ) (e : Effect) (w : World) → carry u e w .facility .«current_keys» ≡ w .facility .«current_keys»
+pub carry-keys : (u : ℕ) (e : Effect) (w : World) → carry u e w .facility .«current_keys» ≡ w .facility .«current_keys»
 carry-keys u (refused n) w = refl
 carry-keys u (gives n b) w = refl
 carry-keys u (keeps h) w = refl
 carry-keys u leaves w = refl
 carry-keys u (enters password) w = refl
 carry-keys u (writes b h) w = refl
+
+pub carry-old : (u : ℕ) (e : Effect) (w : World) → carry u e w .facility .«old_keys» ≡ w .facility .«old_keys»
+carry-old u (refused n) w = refl
+carry-old u (gives n b) w = refl
+carry-old u (keeps h) w = refl
+carry-old u leaves w = refl
+carry-old u (enters password) w = refl
+carry-old u (writes b h) w = refl
+
+pub carry-due : (u : ℕ) (e : Effect) (w : World) → carry u e w .facility .due ≡ w .facility .due
+carry-due u (refused n) w = refl
+carry-due u (gives n b) w = refl
+carry-due u (keeps h) w = refl
+carry-due u leaves w = refl
+carry-due u (enters password) w = refl
+carry-due u (writes b h) w = refl
 
 module _ (w : World) (u : ℕ) (c : UserCommand) (out : Bytes) where
   -- it leaves what v holds

@@ -103,6 +103,11 @@ module _ (u : ℕ) (b t : Bytes) (eight : length b ≡ 8) where
   new-entry : take 8 (drop 4 (digits 256 4 u ++ (b ++ drop 12 t))) ≡ b
   new-entry = rw (drop-at (digits 256 4 u) (b ++ drop 12 t) 4 four-bytes) (take-at b (drop 12 t) 8 eight)
 
+  new-rest : drop 12 (digits 256 4 u ++ (b ++ drop 12 t)) ≡ drop 12 t
+  new-rest =
+      ap (drop 12) (sym (append-assoc (digits 256 4 u) b (drop 12 t)))
+      ∙ drop-at (digits 256 4 u ++ b) (drop 12 t) 12 (omega (arith, length-append (digits 256 4 u) b, four-bytes))
+
 module _ (u : ℕ) (b : Bytes) (eight : length b ≡ 8) (small : u < 4294967295) where
   -- a user with no entry gets the first free one
   pub enrol-mine : (n : ℕ) (t : Bytes) → n * 12 ≤ length t → entryIn n u t ≡ none → isSome (entryIn n freeId t) ≡ true → entryIn n u (enrolIn n u b t) ≡ some b
@@ -128,6 +133,20 @@ module _ (u : ℕ) (b : Bytes) (eight : length b ≡ 8) (small : u < 4294967295)
           byTest (eqb u (idOf t))
           (λ y. absurd (let z : _≡_ {A = ℕ} 0 1 = never (sym (ap (λ (x : Bool). cond x (some (take 8 (drop 4 t))) (entryIn n u (drop 12 t))) y) ∙ q) in omega arith))
           (λ z. z)
+
+  -- another's entry stays, unless it is the free one
+  pub enrol-other : (v : ℕ) → eqb v u ≡ false → eqb v freeId ≡ false → (n : ℕ) (t : Bytes) → n * 12 ≤ length t → entryIn n v (enrolIn n u b t) ≡ entryIn n v t
+  unfolding entryIn enrolIn idOf
+  enrol-other v d d′ zero t l = refl
+  enrol-other v d d′ (suc n) t l =
+      byTest (eqb freeId (idOf t))
+      (λ g.
+      let me : row 256 0 (digits 256 4 u) ≡ u = row-digits 256 4 u (omega arith) in
+      let f : eqb v (idOf t) ≡ false = subst (λ (x : ℕ). eqb v x ≡ false) (eqb-true freeId (idOf t) g) d′ in
+      rw (g, new-id u b t eight, me, d, f, new-rest u b t eight))
+      (λ g.
+      let r = enrolIn n u b (drop 12 t) in
+      rw (g, stay-id t r (first n t l), stay-entry t r (first n t l), stay-rest t r (first n t l), enrol-other v d d′ n (drop 12 t) (rest n t l)))
 
   pub enrol-length : (n : ℕ) (t : Bytes) → n * 12 ≤ length t → length (enrolIn n u b t) ≡ length t
   unfolding enrolIn
@@ -180,3 +199,16 @@ module _ (u : ℕ) (b t : Bytes) (eight : length b ≡ 8) where
         byTest (isSome (entryOf u t))
         (λ e. rw e (enter-own ∙ became b (entryOf u t) e))
         (λ e. rw e (enrol-own (was-none (entryOf u t) e) (not-false _ (sym (ap (λ (x : Bool). cond x false (not (isSome (entryOf freeId t)))) e) ∙ h))))
+
+    by-entries : (v : ℕ) (t′ : Bytes) → length t′ ≡ length t → entryIn (length t / 12) v t′ ≡ entryIn (length t / 12) v t → entryOf v t′ ≡ entryOf v t
+    unfolding entryOf
+    by-entries v t′ l e = ap (λ (n : ℕ). entryIn (n / 12) v t′) l ∙ e
+
+    -- another's entry stays
+    pub enrolled-other : (v : ℕ) → eqb v u ≡ false → eqb v freeId ≡ false → entryOf v (enrolled u b t) ≡ entryOf v t
+    unfolding enrolled enter
+    enrolled-other v d d′ =
+        let n = length t / 12 in
+        byTest (isSome (entryOf u t))
+        (λ e. rw e (by-entries v (enterIn n u b t) (enter-length u b eight n t (within t)) (enter-other u b eight v d n t (within t))))
+        (λ e. rw e (by-entries v (enrolIn n u b t) (enrol-length u b eight small n t (within t)) (enrol-other u b eight small v d d′ n t (within t))))

@@ -13,7 +13,8 @@ use Rattle.table.specs.Entries.{enrolled}
 use Rattle.table.specs.Passwords.{sealed, moved}
 use Rattle.rules.specs.World.{World, over, Own, own, shutFor, current, old, key1, oldKey1, mine, keyOf, vectorOf, asKey, asVector}
 use Rattle.rules.specs.Sides.{functionOf, pairKey, sideFor, withKey, withVector, modeSide, afterMode}
-use Rattle.rules.specs.Refusals.{Test, ofOwn, r1, r1², r2, r2ᵗ, r3, r4, r5, r5², r6, r6ᵒ, r6ᵉ, r7, r7ᵉ, r7ᵐ, r8, r9, r10, r11, r11ᵐ, r12, r12⁸, r13, r14, r15}
+use Rattle.rules.specs.Refusals.{Test, ofOwn, r1, r1², r2, r2ᵗ, r3, r4, r5, r5², r6, r6ᵒ, r6ᵉ, r7}
+use Rattle.rules.specs.Refusals.{r7ᵉ, r7ʳ, r8, r9, r10, r11, r11ᵐ, r12, r12⁸, r13, r14, r15}
 
 -- ---- users' commands. The issuer, field 81, is named beside them
 
@@ -90,7 +91,7 @@ unfoldable pub tests : Command → World → Bytes → List Test
 tests (by u c) w out = refusals u c (length out) (shutFor u w) (own u w)
 tests (EIK i k) w out = r6ᵉ i ∷ r7ᵉ i (w .facility) ∷ r14 k ∷ []
 tests (IPW u p) w out = let o = own u w in r1 u ∷ r2 o ∷ r6 1 o ∷ r7 o ∷ r15 u (w .table) ∷ []
-tests RPW w out = r2ᵗ (w .table) ∷ r7ᵐ (w .facility) ∷ []
+tests RPW w out = r2ᵗ (w .table) ∷ r7ʳ (w .facility) ∷ []
 tests (logout u) w out = refusals u LAU (length out) (shutFor u w) (own u w)
 
 -- EIK: current, even a missing one, becomes old; given key becomes current. Of name 1 it sets DUE where that name already had a current key; of another never

@@ -1,4 +1,6 @@
 -- "Refusal numbers": each number's condition once. The table in `Commands` says which command asks which.
+-- A mark tells the forms of one number apart: r1² asks it of issuer and party, r2ᵗ of a lent table, r5² of LDK and RDK, r6ᵒ of the old key, r6ᵉ and r7ᵉ of EIK,
+-- r7ʳ of RPW, r11ᵐ of a mode, r12⁸ of whole blocks.
 use mathlib.Core.Bool.{Bool, true, false, cond, not}
 use mathlib.Core.List.{List, [], _∷_}
 use Prim.Native.Nat.{ℕ, _%_}
@@ -93,8 +95,8 @@ r7ᵉ i f = on 7 (ofOwn i (f .due) false)
 unfoldable pub outOfTurn : Facility → Bool
 outOfTurn f = cond (f .due) (cond (keyAt 1 (f .«old_keys») .present) (not (keyAt 1 (f .«current_keys») .present)) true) true
 
-abbrev pub r7ᵐ : Facility → Test
-r7ᵐ f = on 7 (outOfTurn f)
+abbrev pub r7ʳ : Facility → Test
+r7ʳ f = on 7 (outOfTurn f)
 
 -- ---- 8 all 16 places taken (and the issuer has none: 4 comes before it); 9 not authenticated
 
@@ -104,7 +106,7 @@ r8 shut = on 8 shut
 abbrev pub r9 : ℕ → Bytes → Own → Test
 r9 u password o = on 9 (not (authentic (current 1 o) u password (o .entry)))
 
--- ---- 10 key of the needed side missing; 11 its IV missing, which is asked of CBC and CFB only
+-- ---- 10 key of the needed side missing; 11 its IV missing, which of the modes only CBC and CFB are asked
 
 abbrev pub r10 : Side → Test
 r10 s = on 10 (not (s .key .present))

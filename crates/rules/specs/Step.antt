@@ -11,7 +11,8 @@ use Rattle.rules.specs.declared.Answer.{Answer}
 use Rattle.rules.specs.declared.Answer.the-variants.{Done, Gave, Wrote, Refused}
 use Rattle.rules.specs.World.{World, over, Own, own, shutFor, key1}
 use Rattle.rules.specs.Refusals.{firstOf}
-use Rattle.rules.specs.Commands.{UserCommand, LAU, Command, by, EIK, IPW, RPW, logout, refusals, Effect, refused, gives, keeps, leaves, enters, writes, effect, tests, keyEntered, passwordEntered, passwordsMoved}
+use Rattle.rules.specs.Commands.{UserCommand, LAU, Command, by, EIK, IPW, RPW, logout, refusals, Effect}
+use Rattle.rules.specs.Commands.{refused, gives, keeps, leaves, enters, writes, effect, tests, keyEntered, passwordEntered, passwordsMoved}
 
 -- ---- what a user's command comes to: refused by the first that holds; none: the effect
 
