@@ -121,12 +121,12 @@ turnOf (Whole tag start end) v w out p i =
 turnOf (Cut tag) v w out p i = reached w out (entered (lineOf i (answered tag (plain (Refused 17) out))) p) i
 turnOf End v w out p i = reached w out p i
 
--- ---- one turn of the loop
+-- ---- what the code did, at each kind of what stands there
 
--- what the code did, at each kind of what stands there
 module _ (f : Field) (v : Bytes) (w : World) (out : Bytes) (p : Page) (i : ℕ) where
   pub by-whole : (tag start end : ℕ) → f ≡ Whole tag start end → (done : Outcome) (t out′ : Bytes) → leftBy done t out′ ≡ answerTo w tag v out
-      → (q : Page) → q ≡ entered (lineOf i (answered tag (leftBy done t out′ .answered))) p → reached (world (done .state) t) out′ q (i + 1) ≡ turnOf f v w out p i
+      → (q : Page) → q ≡ entered (lineOf i (answered tag (leftBy done t out′ .answered))) p
+      → reached (world (done .state) t) out′ q (i + 1) ≡ turnOf f v w out p i
   unfolding turnOf
   by-whole tag start end e done t out′ d q g =
       ap (λ (x : Page). reached (world (done .state) t) out′ x (i + 1)) g
@@ -143,6 +143,8 @@ module _ (f : Field) (v : Bytes) (w : World) (out : Bytes) (p : Page) (i : ℕ) 
   pub by-end : f ≡ End → reached w out p i ≡ turnOf f v w out p i
   unfolding turnOf
   by-end e = sym (ap (λ (x : Field). turnOf x v w out p i) e)
+
+-- ---- one turn of the loop
 
 -- where n commands are enough, one more changes nothing
 module _ (s : Bytes) where
@@ -216,19 +218,24 @@ module _ (s : Bytes) where
   -- what is printed from where a turn has come to, with the reader moved past, is what was to be printed; and the ordinal never runs ahead of the place
   module _ (w : World) (out : Bytes) (at i : ℕ) (p : Page) (i-small : i ≤ at + 1) (more : at < length s) where
     abbrev Goes : Reached → Type 0
-    Goes x = (x .ordinal ≤ pastAt s at + 1) × (printedFrom (x .ordinal) (x .printed) (ranFrom s (x .world) (x .output) (pastAt s at)) ≡ printedFrom i p (ranFrom s w out at))
+    Goes x =
+        (x .ordinal ≤ pastAt s at + 1)
+        × (printedFrom (x .ordinal) (x .printed) (ranFrom s (x .world) (x .output) (pastAt s at)) ≡ printedFrom i p (ranFrom s w out at))
+
+    -- what is printed from the next field on, where the one here had the value v
+    abbrev after-value : ℕ → ℕ → Bytes → Left
+    after-value tag to v =
+        let r = answerTo w tag v out in
+        printedFrom (i + 1) (entered (lineOf i (answered tag (r .answered))) p) (ranFrom s (r .world) (r .answered .output) to)
 
     goes-by : (f : Field) → fieldAt s at ≡ f → Goes (turnOf f (valueAt s at) w out p i)
     unfolding turnOf
     goes-by (Whole tag start end) e =
         let b = within s at tag start end e in
-        let r = answerTo w tag (valueAt s at) out in
         let past = past-whole s at tag start end e in
         (
           omega (arith, past, b .0, b .1),
-          ap (λ (n : ℕ). printedFrom (i + 1) (entered (lineOf i (answered tag (r .answered))) p) (ranFrom s (r .world) (r .answered .output) n)) past
-          ∙ ap (λ (v : Bytes). printedFrom (i + 1) (entered (lineOf i (answered tag (answerTo w tag v out .answered))) p) (ranFrom s (answerTo w tag v out .world) (answerTo w tag v out .answered .output) end)) (value-whole s at tag start end e)
-          ∙ sym (turn-whole w out at i p tag start end e more),
+          ap (λ (n : ℕ). after-value tag n (valueAt s at)) past ∙ ap (after-value tag end) (value-whole s at tag start end e) ∙ sym (turn-whole w out at i p tag start end e more),
         )
     goes-by (Cut tag) e =
         let past = past-cut s at tag e in
