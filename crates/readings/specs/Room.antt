@@ -8,14 +8,14 @@ use native.Mathlib.Numerals.{add-one}
 use native.Mathlib.Omega.{arith}
 use lib.Dec.{ltb}
 use lib.ListN.{length, take, drop, set, length-append, length-set}
-use lib.Seq.{sets, sets-eq}
+use lib.Seq.{sets, sets-eq, take-at}
 use borrow.Author.Tests.{lt-ltb}
 use Rattle.ground.specs.Search.{byTest}
-use Rattle.ground.specs.Lists.{Below, below-take, below-drop, take-sets}
+use Rattle.ground.specs.Lists.{Below, below-take, below-drop}
 use Rattle.stream.specs.declared.Field.{Field}
 use Rattle.stream.specs.declared.Field.the-variants.{Whole, Cut, End}
 use Rattle.stream.specs.Fields.{Bytes, part, fieldAt, within, part-length}
-use Rattle.printout.specs.Page.{page, letter, entered}
+use Rattle.printout.specs.Page.{Page, page, letter, entered}
 use Rattle.printout.specs.Digits.{hexByte, hex, decimalIn, decimal}
 use Rattle.printout.specs.Lines.{shown, line}
 use Rattle.rules.specs.declared.Answer.the-variants.{Refused}
@@ -108,7 +108,7 @@ roomy (x ∷ xs) b n h =
     rw (e, add-one) (roomy xs (set b n x) (suc n) (omega (arith, length-set b n x)) ∙ ap (page (sets (set b n x) (suc n) xs)) k)
 
 -- a run prints every line, and leaves the rest of the page as it was
-pub whole-page : (s : Bytes) (w : World) (out b : Bytes) → Below 256 s → length s ≤ 65536 → 327680 ≤ length b
+pub whole-page : (s : Bytes) (w : World) (out b : Bytes) → Below 256 s → (size : length s ≤ 65536) (room : 327680 ≤ length b)
     → let xs = transcript 1 (ranFrom s w out 0 .answers) in printedRun s w out (page b 0) .printed ≡ page (xs ++ drop (length xs) b) (length xs)
 unfolding printedRun printedFrom
 whole-page s w out b bytes size room =
@@ -120,8 +120,6 @@ whole-page s w out b bytes size room =
 -- what is printed is every line
 pub all-printed : (s : Bytes) (w : World) (out b : Bytes) → Below 256 s → length s ≤ 65536 → 327680 ≤ length b
     → let p = printedRun s w out (page b 0) .printed in take (p .filled) (p .letters) ≡ transcript 1 (ranFrom s w out 0 .answers)
-unfolding printedRun printedFrom
 all-printed s w out b bytes size room =
     let xs = transcript 1 (ranFrom s w out 0 .answers) in
-    let h : 0 + length xs ≤ length b = omega (arith, lines-length s bytes size w out) in
-    rw (roomy xs b 0 h) (take-sets b xs 0 h)
+    ap (λ (p : Page). take (p .filled) (p .letters)) (whole-page s w out b bytes size (omega arith)) ∙ take-at xs (drop (length xs) b) (length xs) refl

@@ -9,7 +9,7 @@ use lib.ListN.{length, take, drop}
 use Rattle.stream.specs.declared.Field.{Field}
 use Rattle.stream.specs.declared.Field.the-variants.{Whole, Cut, End}
 use Rattle.stream.specs.declared.Reading.{Reading}
-use Rattle.stream.specs.Fields.{part, fieldAt, valueAt, pastAt, value-whole, past-whole, at-end, within}
+use Rattle.stream.specs.Fields.{part, fieldAt, valueAt, pastAt, value-whole, past-whole, past-cut, past-end, at-end, within}
 use Rattle.stream.specs.Commands.{decoded}
 use Rattle.printout.specs.Page.{Page, entered, then}
 use Rattle.printout.specs.Lines.{line}
@@ -104,6 +104,48 @@ printedFrom i p r = leaves (r .world) (r .output) (entered (transcript i (r .ans
 unfoldable pub printedRun : Bytes → World → Bytes → Page → Left
 printedRun s w out p = printedFrom 1 p (ranFrom s w out 0)
 
+-- ---- one turn of the run
+
+-- where a run has come to: the world, the output, the page, and the next line's ordinal
+pub record Reached : Type 0 where
+  pub world : World
+  pub output : Bytes
+  pub printed : Page
+  pub ordinal : ℕ
+
+abbrev pub reached : World → Bytes → Page → ℕ → Reached
+reached w out p i = record { world = w; output = out; printed = p; ordinal = i }
+
+-- what stands at the reader, with its value, is answered, and the answer printed
+unfoldable pub turnOf : Field → Bytes → World → Bytes → Page → ℕ → Reached
+turnOf (Whole tag start end) v w out p i =
+    reached (answerTo w tag v out .world) (answerTo w tag v out .answered .output) (entered (lineOf i (answered tag (answerTo w tag v out .answered))) p) (i + 1)
+turnOf (Cut tag) v w out p i = reached w out (entered (lineOf i (answered tag (plain (Refused 17) out))) p) i
+turnOf End v w out p i = reached w out p i
+
+-- ---- what the code did, at each kind of what stands there
+
+module _ (f : Field) (v : Bytes) (w : World) (out : Bytes) (p : Page) (i : ℕ) where
+  pub by-whole : (tag start end : ℕ) → f ≡ Whole tag start end → (done : Outcome) (t out′ : Bytes) → leftBy done t out′ ≡ answerTo w tag v out
+      → (q : Page) → q ≡ entered (lineOf i (answered tag (leftBy done t out′ .answered))) p
+      → reached (world (done .state) t) out′ q (i + 1) ≡ turnOf f v w out p i
+  unfolding turnOf
+  by-whole tag start end e done t out′ d q g =
+      ap (λ (x : Page). reached (world (done .state) t) out′ x (i + 1)) g
+      ∙ ap (λ (a : Result). reached (a .world) (a .answered .output) (entered (lineOf i (answered tag (a .answered))) p) (i + 1)) d
+      ∙ sym (ap (λ (x : Field). turnOf x v w out p i) e)
+
+  pub by-cut : (tag : ℕ) → f ≡ Cut tag → (g : Facility) (done : Outcome) → done ≡ refusedOf g 17
+      → (q : Page) → q ≡ entered (lineOf i (answered tag (leftBy done [] out .answered))) p → reached w out q i ≡ turnOf f v w out p i
+  unfolding turnOf
+  by-cut tag e g done d q h =
+      ap (λ (x : Page). reached w out x i) (h ∙ ap (λ (x : Outcome). entered (lineOf i (answered tag (leftBy x [] out .answered))) p) d)
+      ∙ sym (ap (λ (x : Field). turnOf x v w out p i) e)
+
+  pub by-end : f ≡ End → reached w out p i ≡ turnOf f v w out p i
+  unfolding turnOf
+  by-end e = sym (ap (λ (x : Field). turnOf x v w out p i) e)
+
 -- ---- one turn of the loop
 
 -- where n commands are enough, one more changes nothing
@@ -160,29 +202,12 @@ module _ (s : Bytes) where
         r : Ran
         r = ranFrom s (answerTo w tag (part start end s) out .world) (answerTo w tag (part start end s) out .answered .output) end
 
-    -- what the code did at a turn
-    pub turned : (tag start end : ℕ) → fieldAt s at ≡ Whole tag start end → at < length s
-        → (v : Bytes) → v ≡ valueAt s at → (to : ℕ) → to ≡ pastAt s at → (done : Outcome) (t out′ : Bytes) → leftBy done t out′ ≡ answerTo w tag v out
-        → (q : Page) → q ≡ entered (lineOf i (answered tag (leftBy done t out′ .answered))) p
-        → printedFrom (i + 1) q (ranFrom s (world (done .state) t) out′ to) ≡ printedFrom i p (ranFrom s w out at)
-    turned tag start end e h v f to k done t out′ d q g =
-        ap (λ (n : ℕ). printedFrom (i + 1) q (ranFrom s (world (done .state) t) out′ n)) (k ∙ past-whole s at tag start end e)
-        ∙ ap (λ (x : Page). printedFrom (i + 1) x (ranFrom s (world (done .state) t) out′ end)) g
-        ∙ ap (λ (a : Result). printedFrom (i + 1) (entered (lineOf i (answered tag (a .answered))) p) (ranFrom s (a .world) (a .answered .output) end)) (d ∙ ap (λ (x : Bytes). answerTo w tag x out) (f ∙ value-whole s at tag start end e))
-        ∙ sym (turn-whole tag start end e h)
-
     turn-cut : (tag : ℕ) → fieldAt s at ≡ Cut tag → at < length s
         → printedFrom i p (ranFrom s w out at) ≡ leaves w out (entered (lineOf i (answered tag (plain (Refused 17) out))) p)
     unfolding printedFrom transcript
     turn-cut tag e h =
         ap (printedFrom i p) (turn w out at h ∙ ap (goOn (ranFrom s) w out s) e)
         ∙ ap (λ (l : Bytes). leaves w out (entered l p)) (append-nil (lineOf i (answered tag (plain (Refused 17) out))))
-
-    -- what the code did at the cut
-    pub cut-off : (tag : ℕ) → fieldAt s at ≡ Cut tag → at < length s → (f : Facility) (done : Outcome) → done ≡ refusedOf f 17
-        → (q : Page) → q ≡ entered (lineOf i (answered tag (leftBy done [] out .answered))) p → leaves w out q ≡ printedFrom i p (ranFrom s w out at)
-    cut-off tag e h f done d q g =
-        ap (leaves w out) (g ∙ ap (λ (x : Outcome). entered (lineOf i (answered tag (leftBy x [] out .answered))) p) d) ∙ sym (turn-cut tag e h)
 
     pub turn-none : fieldAt s at ≡ End → at < length s → printedFrom i p (ranFrom s w out at) ≡ leaves w out p
     unfolding printedFrom transcript entered
@@ -191,3 +216,35 @@ module _ (s : Bytes) where
     pub turn-end : length s ≤ at → printedFrom i p (ranFrom s w out at) ≡ leaves w out p
     unfolding printedFrom transcript entered
     turn-end h = ap (printedFrom i p) (over w out at h)
+
+  -- what is printed from where a turn has come to, with the reader moved past, is what was to be printed; and the ordinal never runs ahead of the place
+  module _ (w : World) (out : Bytes) (at i : ℕ) (p : Page) (i-small : i ≤ at + 1) (more : at < length s) where
+    abbrev Goes : Reached → Type 0
+    Goes x =
+        (x .ordinal ≤ pastAt s at + 1)
+        × (printedFrom (x .ordinal) (x .printed) (ranFrom s (x .world) (x .output) (pastAt s at)) ≡ printedFrom i p (ranFrom s w out at))
+
+    -- what is printed from the next field on, where the one here had the value v
+    abbrev after-value : ℕ → ℕ → Bytes → Left
+    after-value tag to v =
+        let r = answerTo w tag v out in
+        printedFrom (i + 1) (entered (lineOf i (answered tag (r .answered))) p) (ranFrom s (r .world) (r .answered .output) to)
+
+    goes-by : (f : Field) → fieldAt s at ≡ f → Goes (turnOf f (valueAt s at) w out p i)
+    unfolding turnOf
+    goes-by (Whole tag start end) e =
+        let b = within s at tag start end e in
+        let past = past-whole s at tag start end e in
+        (
+          omega (arith, past, b .0, b .1),
+          ap (λ (n : ℕ). after-value tag n (valueAt s at)) past ∙ ap (after-value tag end) (value-whole s at tag start end e) ∙ sym (turn-whole w out at i p tag start end e more),
+        )
+    goes-by (Cut tag) e =
+        let past = past-cut s at tag e in
+        (omega (arith, past), turn-end w out (pastAt s at) i _ (omega (arith, past)) ∙ sym (turn-cut w out at i p tag e more))
+    goes-by End e =
+        let past = past-end s at e in
+        (omega (arith, past), turn-end w out (pastAt s at) i p (omega (arith, past)) ∙ sym (turn-none w out at i p e more))
+
+    pub goes : Goes (turnOf (fieldAt s at) (valueAt s at) w out p i)
+    goes = goes-by (fieldAt s at) refl
