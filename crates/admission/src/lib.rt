@@ -1,4 +1,7 @@
 // RAS, LAU and CPW: users come, go, and change their passwords; the host may log one out.
+
+#![tactic(auto)]
+
 ghost use Rattle.std.specs.Prelude.{◌≡◌};
 ghost use Rattle.rules.specs.Commands.{by, RAS, LAU, CPW, logout};
 ghost use Rattle.rules.specs.Outcomes.{Refuses, RefusesTable, Effects, EffectsTable, Steps, StepsTable};

@@ -10,7 +10,7 @@ use crate::words::block_at;
 use engine::{bytes_of, compute, key_schedule, word_of};
 
 // Eight zero bytes where the verdict is not Done.
-#[derive(Drop)]
+#[derive(Clone, Copy)]
 pub struct Fixity {
     pub verdict: Verdict,
     pub value: [u8; 8],

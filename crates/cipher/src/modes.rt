@@ -10,7 +10,7 @@ use engine::{bytes_of, compute, key_schedule, reversed, word_of};
 use fips81::Turn;
 
 // By the names of their commands: E enciphers, D deciphers. CFB is the one of 64 bits.
-#[derive(Drop)]
+#[derive(Clone, Copy)]
 pub enum Mode {
     Ecbe,
     Ecbd,
@@ -21,14 +21,14 @@ pub enum Mode {
 }
 
 // Done; or the text is no whole number of blocks (of a record: empty); or the output is shorter than the text.
-#[derive(Drop)]
+#[derive(Clone, Copy)]
 pub enum Verdict {
     Done,
     BadLength,
     NoRoom,
 }
 
-#[derive(Drop)]
+#[derive(Clone, Copy)]
 pub struct Applied {
     pub verdict: Verdict,
     pub vector: Vector,

@@ -3,11 +3,12 @@ ghost use Rattle.std.specs.Prelude.{◌≡◌, true, List, ℕ};
 ghost use Rattle.counter.specs.Input.{partly, one_more, no_feed, line_in, is_last};
 
 use clerk::told::is_quit;
+use io::read_full;
 use printout::page::put;
 use reader::Line;
 
 // A line as far as it has come: how many of its letters are there, whether it has more than found room, and whether its line feed has come.
-#[derive(Drop)]
+#[derive(Clone, Copy)]
 pub struct Got {
     pub letters: usize,
     pub longer: bool,
@@ -40,7 +41,7 @@ pub fn take_letter(line: &mut [u8], got: Got, letter: u8) -> Got
     }
 }
 
-#[derive(Drop)]
+#[derive(Clone, Copy)]
 enum Letter {
     Came(u8),
     Ended,
@@ -48,7 +49,7 @@ enum Letter {
 
 fn next_letter() -> Letter {
     let mut one = [0u8; 1];
-    let got = libc::read(libc::STDIN_FILENO, &mut one);
+    let got = read_full(0, &mut one);
     if got == 1 {
         Letter::Came(one[0])
     } else {

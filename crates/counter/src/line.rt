@@ -14,7 +14,7 @@ use printout::page::first_of;
 use reader::Line;
 
 // What a line leaves: the desk, what the line says, and how far its bytes fill the piece.
-#[derive(Drop)]
+#[derive(Clone, Copy)]
 pub struct Serving {
     pub desk: Desk,
     pub said: Line,

@@ -19,7 +19,7 @@ use stream::Field;
 use stream::fields::{field_at, value_at};
 
 // The facility, how many answers it has given, and how many of their bytes are kept.
-#[derive(Drop)]
+#[derive(Clone, Copy)]
 pub struct Desk {
     pub state: Facility,
     pub answers: usize,
@@ -27,7 +27,7 @@ pub struct Desk {
 }
 
 // What a command leaves: the desk, where the piece goes on, and how far the answer fills the paper.
-#[derive(Drop)]
+#[derive(Clone, Copy)]
 pub struct Turn {
     pub desk: Desk,
     pub at: usize,
@@ -144,7 +144,7 @@ pub fn carry_out(
             &mut paper[..],
         );
         if speaks {
-            write_all(libc::STDOUT_FILENO, first_of(&paper[..], turn.told));
+            write_all(1, first_of(&paper[..], turn.told));
         }
         d = turn.desk;
         at = turn.at;

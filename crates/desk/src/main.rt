@@ -1,4 +1,7 @@
 // The desk: lines of words on standard input, each carried out at once and answered in words.
+
+#![tactic(auto)]
+
 use clerk::told::put_told;
 use counter::input::{is_last, next_line};
 use counter::kept::room;
@@ -9,20 +12,17 @@ use printout::page::first_of;
 use reader::Line;
 use state::Facility;
 use state::places::fresh_facility;
+use std::io::IsTerminal;
 
 // On a terminal the desk greets and asks for each line; in a pipe it only answers.
-fn at_terminal() -> bool {
-    if libc::isatty(libc::STDIN_FILENO) == 1 {
-        libc::isatty(libc::STDOUT_FILENO) == 1
-    } else {
-        false
-    }
+fn at_terminal(rt: &HostRuntime) -> bool {
+    rt.stdin().is_terminal() && rt.stdout().is_terminal()
 }
 
 fn greet(asks: bool) {
     if asks {
         write_all(
-            libc::STDOUT_FILENO,
+            1,
             b"The desk of the key notarization facility. help lists the commands, quit leaves.\n",
         );
     }
@@ -30,7 +30,7 @@ fn greet(asks: bool) {
 
 fn ask(asks: bool) {
     if asks {
-        write_all(libc::STDOUT_FILENO, b"> ");
+        write_all(1, b"> ");
     }
 }
 
@@ -38,7 +38,7 @@ fn ask(asks: bool) {
 fn part(asks: bool, complete: bool) {
     if asks {
         if !complete {
-            write_all(libc::STDOUT_FILENO, b"\n");
+            write_all(1, b"\n");
         }
     }
 }
@@ -46,7 +46,7 @@ fn part(asks: bool, complete: bool) {
 // What the desk itself says of a line: nothing where there was something to carry out (`clerk/specs/Told.one_of_them`).
 fn tell(number: usize, said: Line, state: Facility, paper: &mut [u8]) {
     let told = put_told(&mut paper[..], 0, number, said, state);
-    write_all(libc::STDOUT_FILENO, first_of(&paper[..], told));
+    write_all(1, first_of(&paper[..], told));
 }
 
 // The lines one after the other, each answered before the next is read.
@@ -91,12 +91,12 @@ fn serve(
         desk = served.desk;
     }
     write_all(
-        libc::STDOUT_FILENO,
+        1,
         b"the desk has read 1000000 lines, and stops\n",
     );
 }
 
-fn main() {
+fn main(rt: HostRuntime) {
     let mut line = [0u8; 131072];
     let mut table = [0xFFu8; 768];
     let mut out = [0u8; 32768];
@@ -104,7 +104,7 @@ fn main() {
     let mut ends = [0usize; 4097];
     let mut piece = [0u8; 65538];
     let mut paper = [0u8; 70000];
-    let asks = at_terminal();
+    let asks = at_terminal(&rt);
     greet(asks);
     serve(
         asks, &mut line, &mut table, &mut out, &mut kept, &mut ends, &mut piece, &mut paper,

@@ -1,4 +1,7 @@
 // What C and Rust link: the cipher with a block as a number, its first byte at the left.
+
+#![tactic(auto)]
+
 ghost use Rattle.std.specs.Prelude.{◌≡◌};
 ghost use Rattle.cipher.specs.Bits.{word, bytes};
 ghost use Rattle.cipher.specs.Cipher.{enciphered, deciphered, valued, number};
@@ -25,7 +28,7 @@ pub extern "C" fn door_decipher(key: u64, block: u64) -> u64
 }
 
 // What a tag asks for.
-#[derive(Drop)]
+#[derive(Clone, Copy)]
 enum Asked {
     For(Mode),
     Nothing,

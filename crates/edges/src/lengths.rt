@@ -7,7 +7,7 @@ use handed::report::{Tally, left, reply};
 use officer::{ipw, rpw};
 
 // What the four commands that look at the table's length should reply.
-#[derive(Drop)]
+#[derive(Clone, Copy)]
 struct Replies {
     ipw: u8,
     ras: u8,

@@ -1,4 +1,7 @@
 // Carries out, on handed-in tables and texts, what no command stream reaches: a line for each case, and the count.
+
+#![tactic(auto)]
+
 mod identifiers;
 mod lengths;
 mod tables;

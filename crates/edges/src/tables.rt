@@ -10,7 +10,7 @@ use handed::report::{Tally, left, reply};
 use officer::{ipw, rpw};
 
 // A table before a command, and as it should be after.
-#[derive(Drop)]
+#[derive(Clone, Copy)]
 struct Change {
     before: [u8; 24],
     after: [u8; 24],

@@ -6,7 +6,7 @@ use handed::report::{Tally, eight, left, reply, wrote};
 use records::{by_mode, daut};
 
 // User 5's keys and vectors are all zeros, so that each mode takes a block of zeros to LOW_ZEROS, or LOW_ZEROS to zeros.
-#[derive(Drop)]
+#[derive(Clone, Copy)]
 struct Block {
     mode: Mode,
     text: [u8; 8],

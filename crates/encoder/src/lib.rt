@@ -1,4 +1,7 @@
 // A command to its bytes in the stream's form, put onto a lent page.
+
+#![tactic(auto)]
+
 ghost use Rattle.std.specs.Prelude.{◌≡◌};
 ghost use Rattle.printout.specs.Page.{page, entered};
 ghost use Rattle.encoder.specs.Encoded.{encoded};

@@ -1,5 +1,7 @@
 // The data encryption standard (FIPS PUB 46) on words of 64 bits: its tables, the rounds and the key schedule.
 
+#![tactic(auto)]
+
 mod rounds;
 mod schedule;
 mod tables;

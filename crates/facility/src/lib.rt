@@ -1,4 +1,7 @@
 // The key notarization facility: any command that the stream can spell, carried out by its tag.
+
+#![tactic(auto)]
+
 ghost use Rattle.std.specs.Prelude.{◌≡◌};
 ghost use Rattle.rules.specs.World.{over};
 ghost use Rattle.rules.specs.Outcomes.{left};

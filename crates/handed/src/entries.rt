@@ -31,7 +31,7 @@ pub fn put_last(table: &mut [u8], entry: [u8; 12]) {
     if 0 < n {
         let at = (n - 1) * 12;
         let end = at + 12;
-        bytes::copy(&entry, &mut table[at..end]);
+        table[at..end].copy_from_slice(&entry);
     }
 }
 
@@ -43,7 +43,7 @@ pub fn entry_at(table: &[u8], k: usize) -> [u8; 12]
     let at = k * 12;
     let end = at + 12;
     if end <= table.len() {
-        bytes::copy(&table[at..end], &mut entry);
+        entry.copy_from_slice(&table[at..end]);
     }
     entry
 }

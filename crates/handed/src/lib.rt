@@ -1,5 +1,7 @@
 // What the programs `edges` and `holdings` hand in, and the lines that they print.
 
+#![tactic(auto)]
+
 pub mod entries;
 pub mod flat;
 pub mod given;

@@ -1,26 +1,24 @@
 // A line for each case, in plain words, and how many of them were wrong.
 use check::same;
 use io::{print_decimal, print_hex, write_all};
-use libc::STDOUT_FILENO;
 use rules::{Answer, Outcome};
-use std::num::wrapping_add_u64;
 
-#[derive(Drop)]
+#[derive(Clone, Copy)]
 pub struct Tally {
     pub cases: u64,
     pub wrong: u64,
 }
 
 fn text(s: &[u8]) {
-    write_all(STDOUT_FILENO, s);
+    write_all(1, s);
 }
 
 fn number(n: u64) {
-    print_decimal(STDOUT_FILENO, n);
+    print_decimal(1, n);
 }
 
 fn byte(b: u8) {
-    print_hex(STDOUT_FILENO, b as u64, 2);
+    print_hex(1, b as u64, 2);
 }
 
 fn bytes(s: &[u8]) {
@@ -33,7 +31,7 @@ fn bytes(s: &[u8]) {
 
 // The end of a line. No count of this program comes near 2^64.
 fn counted(t: Tally, right: bool) -> Tally {
-    let cases = wrapping_add_u64(t.cases, 1);
+    let cases = t.cases.wrapping_add(1);
     if right {
         text(b"\n");
         Tally {
@@ -44,7 +42,7 @@ fn counted(t: Tally, right: bool) -> Tally {
         text(b", WRONG\n");
         Tally {
             cases,
-            wrong: wrapping_add_u64(t.wrong, 1),
+            wrong: t.wrong.wrapping_add(1),
         }
     }
 }

@@ -1,4 +1,7 @@
 // Carries out, on handed-in places and keys, what no command stream reaches: a line for each case, and the count.
+
+#![tactic(auto)]
+
 mod held_keys;
 mod places;
 

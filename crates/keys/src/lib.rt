@@ -1,4 +1,7 @@
 // Parity, and notarizing an interchange key with a pair of users.
+
+#![tactic(auto)]
+
 ghost use Rattle.std.specs.Prelude.{◌≡◌, ◌<◌, ◌/◌, ◌%◌};
 ghost use Rattle.keys.specs.Keys.{odd, mixed, parity_of, notarized};
 

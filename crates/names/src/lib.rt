@@ -1,10 +1,13 @@
 // The names of the commands, and the other words that a line can start with.
+
+#![tactic(auto)]
+
 pub mod by_tag;
 pub mod first_word;
 pub mod spelling;
 
 // What a line says.
-#[derive(Drop)]
+#[derive(Clone, Copy)]
 pub enum Says {
     Nothing,
     Command,
@@ -15,7 +18,7 @@ pub enum Says {
 }
 
 // What a first word begins: nothing known, a command with its tag, or another of these.
-#[derive(Drop)]
+#[derive(Clone, Copy)]
 pub struct Start {
     pub known: bool,
     pub says: Says,

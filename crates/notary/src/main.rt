@@ -1,4 +1,7 @@
 // NOTARY: a stream on standard input, and a line for each command. What is printed is `print_notary`'s; here it is only read and written.
+
+#![tactic(auto)]
+
 use io::{large_buffer, read_full, write_all};
 use programs::notary::print_notary;
 use programs::paper::written;

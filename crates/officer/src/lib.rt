@@ -1,4 +1,7 @@
 // EIK, IPW and RPW: the officer enters keys and passwords.
+
+#![tactic(auto)]
+
 ghost use Rattle.std.specs.Prelude.{◌≡◌};
 ghost use Rattle.rules.specs.Refusals.{lacks_entry, out_of_turn};
 ghost use Rattle.rules.specs.Commands.{EIK, IPW, RPW, undue};

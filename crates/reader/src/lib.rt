@@ -1,4 +1,7 @@
 // What a line of words says.
+
+#![tactic(auto)]
+
 pub mod command;
 pub mod raw;
 pub mod reader;
@@ -14,7 +17,7 @@ use values::{Origin, Source};
 use words::Expected;
 
 // How far a line has been read: what it says, or, where it does not fit, the place and what was expected there. A column is the place and one.
-#[derive(Drop)]
+#[derive(Clone, Copy)]
 pub struct Line {
     pub fits: bool,
     pub at: usize,

@@ -1,4 +1,7 @@
 // The six modes, and DAUT.
+
+#![tactic(auto)]
+
 ghost use Rattle.std.specs.Prelude.{◌≡◌};
 ghost use Rattle.cipher.specs.declared.modes.Mode.TheVariants.{Ecbe, Ecbd, Cbce, Cbcd, Cfbe, Cfbd};
 ghost use Rattle.rules.specs.Commands.{by, mode, DAUT};

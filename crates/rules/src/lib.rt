@@ -1,4 +1,7 @@
 // The page's table of commands: what refuses each, and what each does. `specs/Commands.antt` is the definition; here is what the commands' code shares.
+
+#![tactic(auto)]
+
 pub mod conditions;
 pub mod replies;
 pub mod sides;
@@ -6,7 +9,7 @@ pub mod sides;
 use state::Facility;
 
 // What a key function asks for: t, r, s, or none of them.
-#[derive(Drop)]
+#[derive(Clone, Copy)]
 pub enum Function {
     Transmit,
     Receive,
@@ -15,7 +18,7 @@ pub enum Function {
 }
 
 // Done; done, with so many of the eight bytes given; done, with so many bytes written to the output; or refused, with its number.
-#[derive(Drop)]
+#[derive(Clone, Copy)]
 pub enum Answer {
     Done,
     Gave(u8),
@@ -24,7 +27,7 @@ pub enum Answer {
 }
 
 // The facility after a command, and its answer. The bytes that were not given are zeros.
-#[derive(Drop)]
+#[derive(Clone, Copy)]
 pub struct Outcome {
     pub state: Facility,
     pub answer: Answer,

@@ -1,4 +1,7 @@
 // The scribe: lines of words on standard input, and the stream's bytes on standard output.
+
+#![tactic(auto)]
+
 use clerk::wrong::put_wrong;
 use counter::input::{is_last, next_line};
 use counter::kept::room;
@@ -12,7 +15,7 @@ use state::places::fresh_facility;
 fn complain(number: usize, said: Line, paper: &mut [u8]) {
     let expected = said.expected;
     let told = put_wrong(&mut paper[..], 0, number, said.at, expected);
-    write_all(libc::STDERR_FILENO, first_of(&paper[..], told));
+    write_all(2, first_of(&paper[..], told));
 }
 
 // The lines one after the other, up to the first bad one: the bytes of each written, and carried out, so that `$n` means what it means at the desk.
@@ -48,7 +51,7 @@ fn write_lines(
         );
         let said = served.said;
         if said.fits {
-            write_all(libc::STDOUT_FILENO, first_of(&piece[..], served.spoken));
+            write_all(1, first_of(&piece[..], served.spoken));
         } else {
             complain(number, said, &mut paper[..]);
             return;

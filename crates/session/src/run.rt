@@ -62,14 +62,14 @@ pub fn put_answer(
 }
 
 // The facility after a run, and how far the page is filled.
-#[derive(Drop)]
+#[derive(Clone, Copy)]
 pub struct Printed {
     pub state: Facility,
     pub filled: usize,
 }
 
 // How far a run has come: the facility, the next line's ordinal, and how far the page is filled.
-#[derive(Drop)]
+#[derive(Clone, Copy)]
 pub struct Going {
     pub state: Facility,
     pub ordinal: usize,

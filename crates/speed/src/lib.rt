@@ -2,6 +2,8 @@
 // Each function returns how many of its n commands were refused. None should be, and bench/ tests that. What a turn is given
 // depends on the turn before, so that no compiler can do the work once for all.
 
+#![tactic(auto)]
+
 use admission::ras;
 use cipher::keys::{DataKey, InterchangeKey};
 use cipher::modes::Mode;
@@ -11,7 +13,6 @@ use records::by_mode;
 use rules::{Answer, Outcome};
 use state::places::{fresh_facility, nothing_held};
 use state::{Facility, HeldInterchangeKey, HeldKey, Holdings, Place, Side};
-use std::num::wrapping_add_u64;
 
 fn key(bytes: [u8; 8]) -> HeldInterchangeKey {
     HeldInterchangeKey {
@@ -71,7 +72,7 @@ fn is_refused(answer: Answer) -> bool {
 fn refusals(so_far: u64, met: Outcome) -> u64 {
     let answer = met.answer;
     if is_refused(answer) {
-        wrapping_add_u64(so_far, 1)
+        so_far.wrapping_add(1)
     } else {
         so_far
     }
@@ -105,7 +106,7 @@ pub extern "C" fn speed_ldk(n: u64) -> u64 {
     refused
 }
 
-#[derive(Drop)]
+#[derive(Clone, Copy)]
 struct Chain {
     refused: u64,
     text: [u8; 8],

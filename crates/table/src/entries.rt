@@ -99,7 +99,7 @@ pub(crate) fn put_at(t: &mut [u8], at: usize, part: &[u8])
     ensures { t.new ≡ take at t.old ++ (part.now ++ drop (at + length part.now) t.old) }
 {
     let end = at + part.len();
-    bytes::copy(part, &mut t[at..end]);
+    t[at..end].copy_from_slice(part);
 }
 
 // The user's entry, where there is one, gets the eight bytes.

@@ -1,4 +1,7 @@
 // A word as a field of the command: a number, or bytes and where they come from.
+
+#![tactic(auto)]
+
 pub mod answers;
 pub mod blocks;
 pub mod fields;
@@ -14,7 +17,7 @@ use crate::sources::source;
 use words::Expected;
 
 // Where bytes come from: hex digits, the words of raw bytes, or letters of the line; or an answer.
-#[derive(Drop)]
+#[derive(Clone, Copy)]
 pub enum Origin {
     HexDigits,
     HexWords,
@@ -22,7 +25,7 @@ pub enum Origin {
     Answered,
 }
 
-#[derive(Drop)]
+#[derive(Clone, Copy)]
 pub struct Source {
     pub from: Origin,
     pub start: usize,
@@ -30,14 +33,14 @@ pub struct Source {
 }
 
 // A number up to a limit, or that it is above it.
-#[derive(Drop)]
+#[derive(Clone, Copy)]
 pub struct Upto {
     pub within: bool,
     pub number: u32,
 }
 
 // A word as a field's value, a number or bytes; or where it stops being one.
-#[derive(Drop)]
+#[derive(Clone, Copy)]
 pub struct Value {
     pub fits: bool,
     pub at: usize,

@@ -4,10 +4,9 @@ ghost use Rattle.vectors.specs.Answers.{one};
 
 use crate::report::wrong;
 use check::same;
-use std::num::wrapping_add_u64;
 
 // The right answers, each way, and the wrong ones.
-#[derive(Drop)]
+#[derive(Clone, Copy)]
 pub struct Tally {
     pub enciphered: u64,
     pub deciphered: u64,
@@ -22,9 +21,9 @@ impl Tally {
             × (result.wrong ≡ (self.wrong + other.wrong) % 2 ^ 64) }
     {
         Tally {
-            enciphered: wrapping_add_u64(self.enciphered, other.enciphered),
-            deciphered: wrapping_add_u64(self.deciphered, other.deciphered),
-            wrong: wrapping_add_u64(self.wrong, other.wrong),
+            enciphered: self.enciphered.wrapping_add(other.enciphered),
+            deciphered: self.deciphered.wrapping_add(other.deciphered),
+            wrong: self.wrong.wrapping_add(other.wrong),
         }
     }
 }

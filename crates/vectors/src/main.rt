@@ -1,4 +1,7 @@
 // Runs the published answers: a line for each group, a line for each wrong answer, and the total.
+
+#![tactic(auto)]
+
 mod answers;
 mod blocks;
 mod fips113;

@@ -1,18 +1,17 @@
 // The lines that the program writes.
 use crate::answers::Tally;
 use io::{print_decimal, print_hex, write_all};
-use libc::STDOUT_FILENO;
 
 fn text(s: &[u8]) {
-    write_all(STDOUT_FILENO, s);
+    write_all(1, s);
 }
 
 fn number(n: u64) {
-    print_decimal(STDOUT_FILENO, n);
+    print_decimal(1, n);
 }
 
 fn byte(b: u8) {
-    print_hex(STDOUT_FILENO, b as u64, 2);
+    print_hex(1, b as u64, 2);
 }
 
 fn bytes(s: &[u8]) {

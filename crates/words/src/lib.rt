@@ -1,9 +1,12 @@
 // A line's letters and words.
+
+#![tactic(auto)]
+
 pub mod letters;
 pub mod split;
 
 // Kinds of letters: blank; those of a plain word; those of a text; digits; hex digits.
-#[derive(Drop)]
+#[derive(Clone, Copy)]
 pub enum Class {
     Blank,
     Plain,
@@ -13,7 +16,7 @@ pub enum Class {
 }
 
 // What stands next in a line: a plain word or the letters of a text, with where they start and end; a text that is not as it should be; or no word.
-#[derive(Drop)]
+#[derive(Clone, Copy)]
 pub enum Word {
     PlainWord { start: usize, end: usize },
     TextWord { start: usize, end: usize },
@@ -22,7 +25,7 @@ pub enum Word {
 }
 
 // What was expected where a line stops being one.
-#[derive(Drop)]
+#[derive(Clone, Copy)]
 pub enum Expected {
     Name,
     Identifier,
