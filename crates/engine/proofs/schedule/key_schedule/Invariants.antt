@@ -1,0 +1,18 @@
+use Rattle.engine.proofs.Loops.{shift_small, key_step, key_end}
+use borrow.Author.Rules.{rules}
+use native.Mathlib.Omega.{arith}
+use mathlib.Core.Path.{◌≡◌, sym, ap, ◌∙◌}
+use Prim.Native.Nat.{ℕ, ◌+◌, ◌/◌, ◌%◌, ◌^◌, ◌≤◌, ◌<◌, ◌-◌}
+use lib.ListN.{length, drop, take}
+use mathlib.Core.List.{◌++◌}
+use Rattle.engine.specs.Fips46.{scheduled, KS}
+use Rattle.engine.specs.Tables.{shifts}
+use Rattle.engine.proofs.schedule.key_schedule.Given as goal
+
+abbrev pub invariant-loop-i : goal.invariant-loop-i
+invariant-loop-i l =
+    (l.i ≤ 16) × (l.c < 2 ^ 28) × (l.d < 2 ^ 28) × (length l.keys ≡ 16)
+    × (take l.i l.keys ++ scheduled (drop l.i shifts) l.c l.d ≡ scheduled shifts l.initial.c l.initial.d)
+
+abbrev pub decreases-loop-i : goal.decreases-loop-i
+decreases-loop-i l = 16 - l.i

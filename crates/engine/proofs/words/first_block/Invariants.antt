@@ -1,0 +1,15 @@
+use mathlib.Core.Path.{◌≡◌, sym, ◌∙◌}
+use Prim.Native.Nat.{◌+◌, ◌^◌, ◌≤◌, ◌<◌, ◌-◌}
+use native.Mathlib.Omega.{arith}
+use lib.Dec.{lit<}
+use lib.ListN.{length, drop}
+use borrow.Author.Rules.{rules}
+use Rattle.ground.specs.Rows.{row, row_step, row_end, wider, shorter}
+use Rattle.ground.specs.Lists.{padded, padded_at, padded-length}
+use Rattle.engine.proofs.words.first_block.Given as goal
+
+abbrev pub invariant-loop-i : goal.invariant-loop-i
+invariant-loop-i l = (l.i ≤ 8) × (l.x < 256 ^ l.i) × (row 256 l.x (drop l.i (padded 8 l.s)) ≡ row 256 0 (padded 8 l.s))
+
+abbrev pub decreases-loop-i : goal.decreases-loop-i
+decreases-loop-i l = 8 - l.i
