@@ -1,0 +1,23 @@
+use mathlib.Core.Path.{◌≡◌, refl, sym, ap, ◌∙◌}
+use Prim.Native.Nat.{◌+◌, ◌-◌, ◌≤◌, ◌<◌}
+use native.Mathlib.Omega.{arith}
+use lib.ListN.{length, drop}
+use borrow.Author.Rules.{rules}
+use Rattle.printout.specs.Page.{page, entered}
+use Rattle.printout.specs.Digits.{hex, hex-step, hex_end}
+use Rattle.printout.proofs.digits.put_hex.Goals as goal
+
+pub loop-i-init : goal.loop-i-init
+loop-i-init c = (search rules, refl, refl)
+
+pub loop-i-preserved : goal.loop-i-preserved
+loop-i-preserved c = let i = c.loop-i.i in
+    let h : i < length c.args.bytes.now = search rules in (
+      search rules,
+      c.put_hex_byte-to.auto.paper ∙ c.loop-i.invariant.1,
+      ap (entered (hex (drop (i + 1) c.args.bytes.now))) c.put_hex_byte-to.ensures ∙ sym (hex-step _ i _ h) ∙ c.loop-i.invariant.2,
+    )
+
+pub returns : goal.returns
+returns c = let h : length c.args.bytes.now ≤ c.loop-i.i = omega arith in
+    sym (hex_end _ _ _ h) ∙ c.loop-i.invariant.2

@@ -1,0 +1,7 @@
+use Rattle.words.specs.Split.{stops}
+use borrow.Author.Rules.{rules}
+use Rattle.words.proofs.split.stops_at.Goals as goal
+
+pub returns : goal.returns
+unfolding stops
+returns c = simp c.run_end.ensures
