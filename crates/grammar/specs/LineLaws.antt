@@ -8,7 +8,7 @@ use mathlib.Core.List.{List, [], ◌∷◌, ◌++◌, append_assoc}
 use Prim.Native.Nat.{ℕ, suc, ◌+◌}
 use Prim.Native.Char.{code}
 use Rattle.std.proofs.Math.ListN.{length, take, drop}
-use borrow.Author.Tests.{eqb-true, eq-eqb, ne_eqb, le-leb, lt-leb, lt-ltb, not-true, not_false}
+use borrow.Author.Tests.{eqb-true, eq-eqb, ne_eqb, le-leb, lt-leb, lt-ltb, not-true, not-false}
 use Rattle.ground.specs.Search.{by_test}
 use Rattle.words.specs.declared.Class.{Class}
 use Rattle.words.specs.declared.Class.TheVariants.{Blank, Plain, Text}
@@ -206,7 +206,7 @@ module _ (l : List ℕ) (at : ℕ) (b : List ℕ) (c : ℕ) (cs : List ℕ) (h :
   next-text (y ∷ rest) t x = by_test (stopped rest) (λ g. closed g) (λ g. broken (start + 1 + front Text cs + 1) SpaceAfterQuote (text_there x ∙ not_stopped y rest t g))
     where
       quoted : y ≡ code "\""
-      quoted = eqb-true y (code "\"") (not_false (eqb y (code "\"")) (text-letter y (front-first Text y rest (ap (front Text) (sym t) ∙ front-after Text cs))))
+      quoted = eqb-true y (code "\"") (not-false (eqb y (code "\"")) (text-letter y (front-first Text y rest (ap (front Text) (sym t) ∙ front-after Text cs))))
 
       w : List ℕ
       w = take (front Text cs) cs

@@ -5,24 +5,24 @@ use Rattle.words.proofs.letters.is_in.Goals as goal
 
 pub returns-in-Blank : goal.returns-in-Blank
 unfolding is_in
-returns-in-Blank c = simp (c.is_blank.ensures, c.in-Blank.is, c.in-Blank.in-Blank-own.keys1)
+returns-in-Blank c = simp (c.is_blank.ensures, c.in-Blank.is)
 
 pub returns-then-is_blank : goal.returns-then-is_blank
 unfolding is_in
-returns-then-is_blank c = simp (sym c.is_blank-in-Plain.ensures ∙ c.if-is_blank.true, c.in-Plain.is, c.in-Plain.in-Plain-own.keys2)
+returns-then-is_blank c = simp (sym c.is_blank-in-Plain.ensures ∙ c.if-is_blank.true, c.in-Plain.is)
 
 pub returns-else-is_blank : goal.returns-else-is_blank
 unfolding is_in
-returns-else-is_blank c = simp (sym c.is_blank-in-Plain.ensures ∙ c.if-is_blank.false, c.in-Plain.is, c.in-Plain.in-Plain-own.keys2)
+returns-else-is_blank c = simp (sym c.is_blank-in-Plain.ensures ∙ c.if-is_blank.false, c.in-Plain.is)
 
 pub returns-in-Text : goal.returns-in-Text
 unfolding is_in
-returns-in-Text c = simp (c.in-Text.is, c.in-Text.in-Text-own.keys3)
+returns-in-Text c = simp (c.in-Text.is)
 
 pub returns-in-Digit : goal.returns-in-Digit
 unfolding is_in
-returns-in-Digit c = simp (c.is_between.ensures, c.in-Digit.is, c.in-Digit.in-Digit-own.keys4)
+returns-in-Digit c = simp (c.is_between.ensures, c.in-Digit.is)
 
 pub returns-in-Hex : goal.returns-in-Hex
 unfolding is_in
-returns-in-Hex c = simp (c.is_hex.ensures, c.in-Hex.is, c.in-Hex.in-Hex-own.keys5)
+returns-in-Hex c = simp (c.is_hex.ensures, c.in-Hex.is)
