@@ -1,0 +1,15 @@
+use mathlib.Core.Path.{◌≡◌, refl, sym, ◌∙◌}
+use Prim.Native.Nat.{◌≤◌, ◌-◌, ◌/◌}
+use native.Mathlib.Nat.{not-suc-le-zero}
+use native.Mathlib.Omega.{arith}
+use lib.ListN.{length}
+use borrow.Author.Rules.{rules}
+use borrow.Author.Tests.{eq-eqb}
+use Rattle.table.specs.Located.{NotBefore, more}
+use Rattle.table.proofs.entries.entry_of.Given as goal
+
+abbrev pub invariant-loop-k : goal.invariant-loop-k
+invariant-loop-k l = (l.n ≡ length l.t / 12) × (l.k ≤ l.n) × NotBefore l.user l.t l.k
+
+abbrev pub decreases-loop-k : goal.decreases-loop-k
+decreases-loop-k l = l.n - l.k

@@ -1,0 +1,13 @@
+use mathlib.Core.Path.{◌≡◌, sym, ◌∙◌}
+use Prim.Native.Nat.{◌≤◌, ◌<◌, ◌-◌}
+use lib.ListN.{length, drop}
+use borrow.Author.Rules.{rules}
+use Rattle.table.specs.Passwords.{same}
+use Rattle.table.proofs.Laws.{same_step, same_differ, same_end}
+use Rattle.table.proofs.passwords.is_same.Given as goal
+
+abbrev pub invariant-loop-i : goal.invariant-loop-i
+invariant-loop-i l = (l.i ≤ 8) × (same (drop l.i l.a) (drop l.i l.b) ≡ same l.a l.b)
+
+abbrev pub decreases-loop-i : goal.decreases-loop-i
+decreases-loop-i l = 8 - l.i

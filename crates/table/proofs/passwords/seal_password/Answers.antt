@@ -1,0 +1,7 @@
+use Rattle.table.specs.Passwords.{sealed}
+use borrow.Author.Rules.{rules}
+use Rattle.table.proofs.passwords.seal_password.Goals as goal
+
+pub returns : goal.returns
+unfolding sealed
+returns c = rw (c.seal.ensures, c.notarize.ensures)
