@@ -1,0 +1,7 @@
+use Rattle.reader.specs.Line.{so_far}
+use borrow.Author.Rules.{rules}
+use Rattle.reader.proofs.so_far.Goals as goal
+
+pub returns : goal.returns
+unfolding so_far
+returns c = simp c.request_of.ensures
