@@ -11,7 +11,7 @@ use Rattle.values.specs.declared.Origin.TheVariants.{Letters}
 use Rattle.names.specs.declared.Says.TheVariants.{Command}
 use Rattle.values.specs.declared.Source.{Source}
 use Rattle.values.specs.Sources.{source}
-use Rattle.reader.specs.Line.{soFar}
+use Rattle.reader.specs.Line.{so_far}
 use Rattle.reader.specs.Command.{read_words, ended_line, command_line, words_step, words_end}
 use Rattle.reader.proofs.command.command_line.Given as goal
 

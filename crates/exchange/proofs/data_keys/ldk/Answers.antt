@@ -1,0 +1,9 @@
+use Rattle.rules.proofs.Laws.{by_refusal, by_effect}
+use borrow.Author.Rules.{rules}
+use Rattle.exchange.proofs.data_keys.ldk.Goals as goal
+
+pub returns-then-n-ne0 : goal.returns-then-n-ne0
+returns-then-n-ne0 c t out = by_refusal _ _ t out _ (c.ldk_refusal-n.ensures t out) c.if-n-ne0.true _ c.refused.ensures
+
+pub returns : goal.returns
+returns c t out = by_effect _ _ t out _ (c.ldk_refusal-n.ensures t out) c.if-n-ne0.false _ (c.ldk_effect.ensures t out)

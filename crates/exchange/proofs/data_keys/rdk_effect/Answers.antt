@@ -1,0 +1,18 @@
+use Rattle.rules.specs.Commands.{effect}
+use Rattle.rules.specs.Step.{effected}
+use borrow.Author.Rules.{rules}
+use Rattle.exchange.proofs.data_keys.rdk_effect.Goals as goal
+
+pub returns : goal.returns
+unfolding effected effect
+returns c t out =
+    simp (
+      c.given.ensures,
+      c.seal.ensures,
+      c.unseal.ensures,
+      c.pair_key-to.ensures,
+      c.pair_key-from.ensures,
+      c.function_of-asked.ensures,
+      c.current_key-current.ensures,
+      c.old_key-old.ensures,
+    )

@@ -1,0 +1,14 @@
+use Rattle.rules.specs.Commands.{tests, refusals}
+use borrow.Author.Rules.{rules}
+use Rattle.exchange.proofs.vectors.eiv_refusal.Goals as goal
+
+pub returns : goal.returns
+unfolding tests refusals
+returns c t out =
+    simp (
+      c.first-3.ensures,
+      c.first-2.ensures,
+      c.first.ensures,
+      c.is_big.ensures,
+      c.seat_of-seat.ensures,
+    )

@@ -1,0 +1,9 @@
+use Rattle.rules.proofs.Laws.{by_refusal, by_effect}
+use borrow.Author.Rules.{rules}
+use Rattle.exchange.proofs.vectors.giv.Goals as goal
+
+pub returns-then-n-ne0 : goal.returns-then-n-ne0
+returns-then-n-ne0 c t out = by_refusal _ _ t out _ (c.giv_refusal-n.ensures t out) c.if-n-ne0.true _ c.refused.ensures
+
+pub returns : goal.returns
+returns c t out = by_effect _ _ t out _ (c.giv_refusal-n.ensures t out) c.if-n-ne0.false _ (c.giv_effect.ensures t out)

@@ -1,0 +1,14 @@
+use Rattle.rules.specs.Commands.{effect}
+use Rattle.rules.specs.Step.{effected}
+use borrow.Author.Rules.{rules}
+use Rattle.exchange.proofs.vectors.giv_effect.Goals as goal
+
+pub returns : goal.returns
+unfolding effected effect
+returns c t out =
+    simp (
+      c.given.ensures,
+      c.encipher.ensures,
+      c.set_parity.ensures,
+      c.seat_of-seat.ensures,
+    )

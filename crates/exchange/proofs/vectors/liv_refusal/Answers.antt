@@ -1,0 +1,18 @@
+use Rattle.rules.specs.Commands.{tests, refusals}
+use borrow.Author.Rules.{rules}
+use Rattle.exchange.proofs.vectors.liv_refusal.Goals as goal
+
+pub returns : goal.returns
+unfolding tests refusals
+returns c t out =
+    simp (
+      c.first-4.ensures,
+      c.first-3.ensures,
+      c.first-2.ensures,
+      c.first.ensures,
+      c.is_big.ensures,
+      c.is_unknown-t5.ensures,
+      c.side_for-side.ensures,
+      c.function_of-asked.ensures,
+      c.seat_of-seat.ensures,
+    )
