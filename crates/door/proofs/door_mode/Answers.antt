@@ -15,7 +15,7 @@ returns-in_default c =
 pub returns : goal.returns
 unfolding moded told
 returns c =
-    ap₂ (λ (n v : ℕ). record { answer = n; vector = v; output = c.apply-applied.new.key.1.1.1.0 }) c.number_of.ensures c.word_of.ensures
+    ap₂ (λ (n v : ℕ). record { answer = n; vector = v; output = c.apply-applied.new.out }) c.number_of.ensures c.word_of.ensures
     ∙ ap told c.apply-applied.ensures
     ∙ ap₂ (λ (k v : List ℕ). told (applied c.in-For.mode k v c.args.text.now c.args.out.now)) c.bytes_of.ensures c.bytes_of-2.ensures
     ∙ ap (λ (q : Asked). moded q c.args.key c.args.vector.now c.args.text.now c.args.out.now) (sym c.in-For.is ∙ c.asked_by.ensures)
