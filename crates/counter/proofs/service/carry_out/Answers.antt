@@ -1,0 +1,31 @@
+use mathlib.Core.Path.{◌≡◌, refl, sym, ◌∙◌}
+use Prim.Native.Nat.{◌-◌, ◌≤◌}
+use native.Mathlib.Omega.{arith}
+use lib.ListN.{length}
+use borrow.Author.Rules.{rules}
+use Rattle.printout.specs.Page.{page}
+use Rattle.rules.specs.World.{over}
+use Rattle.session.specs.Run.{ran_from}
+use Rattle.counter.specs.Kept.{books}
+use Rattle.counter.specs.Service.{with_answers, carried_out, step, further, finished}
+use Rattle.counter.proofs.service.carry_out.Goals as goal
+
+pub loop-at-init : goal.loop-at-init
+unfolding carried_out
+loop-at-init c = (refl, refl, refl, refl, refl, refl)
+
+pub loop-at-smaller : goal.loop-at-smaller
+loop-at-smaller c = let h = further _ _ _ _ _ _ c.loop-at-test.true _ c.next_command-turn.ensures in omega (arith, h, c.loop-at-test.true)
+
+pub loop-at-preserved : goal.loop-at-preserved
+loop-at-preserved c = (
+  c.next_command-turn.auto.1.1.1.0 ∙ c.loop-at.invariant.0,
+  c.next_command-turn.auto.1.1.1.1.0 ∙ c.loop-at.invariant.1,
+  c.next_command-turn.auto.1.1.1.1.1.0 ∙ c.loop-at.invariant.2,
+  c.next_command-turn.auto.1.1.1.1.1.1.0 ∙ c.loop-at.invariant.3,
+  c.next_command-turn.auto.1.1.1.1.1.1.1.0 ∙ c.loop-at.invariant.4,
+  step _ _ _ _ _ _ c.loop-at-test.true _ c.next_command-turn.ensures ∙ c.loop-at.invariant.5,
+)
+
+pub returns : goal.returns
+returns c = let h : length c.args.piece.now ≤ c.loop-at.at = omega (arith, c.loop-at-test.false) in sym (finished _ _ _ _ _ h) ∙ c.loop-at.invariant.5
