@@ -119,16 +119,17 @@ module _ (s : Bytes) where
   found zero w out at h = absurd (false≢true h)
   found (suc n) w out at h = found_at n (found n) w out at (field_at s at) refl h
 
-  met : (w : World) (out : Bytes) {at to : ℕ} (tag : ℕ) → Reaches s at to → field_at s to ≡ Cut tag → has17 (ran_from s w out at).answers ≡ true
-  met w out tag (here {at = at}) c = rw (seventeen s w out at tag c)
-  met w out tag (behind {at = at} {tag = t} {start = start} {end = end} e r) c =
+  met : {at to : ℕ} (tag : ℕ) → Reaches s at to → field_at s to ≡ Cut tag → (w : World) (out : Bytes) → has17 (ran_from s w out at).answers ≡ true
+  met tag (here {at = at}) c w out = rw (seventeen s w out at tag c)
+  met tag (behind {at = at} {tag = t} {start = start} {end = end} e r) c w out =
       let b = within s at t start end e in
-      rw (turn s w out at (omega (arith, b.0, b.1, b.2)), e, not_17 w t (part start end s) out) (met _ _ tag r c)
+      let then = answer_to w t (part start end s) out in
+      rw (turn s w out at (omega (arith, b.0, b.1, b.2)), e, not_17 w t (part start end s) out) (met tag r c then.world then.answered.output)
 
   -- 17 is answered exactly if reading comes to what is cut
   pub seventeen_exactly : (w : World) (out : Bytes) (at : ℕ) → has17 (ran_from s w out at).answers ≡ true ↔ RunsOut s at
   unfolding ran_from
-  seventeen_exactly w out at = (found (length s) w out at, λ r. met w out r.tag r.reached r.cut)
+  seventeen_exactly w out at = (found (length s) w out at, λ r. met r.tag r.reached r.cut w out)
 
   last_at : (n : ℕ) → ((w : World) (out : Bytes) (at : ℕ) → Last (carry_on n s w out at).answers)
       → (w : World) (out : Bytes) (f : Field) → Last (go_on (carry_on n s) w out s f).answers

@@ -16,7 +16,7 @@ pub returns-in-Ended : goal.returns-in-Ended
 returns-in-Ended c = c.loop-turns.invariant.1
 
 pub loop-turns-preserved : goal.loop-turns-preserved
-loop-turns-preserved c = (c.take_letter-got.auto.0 ∙ c.loop-turns.invariant.0, one_more _ _ c.loop-turns.invariant.1 _ _ c.take_letter-got.ensures)
+loop-turns-preserved c = (c.take_letter-got.auto.line ∙ c.loop-turns.invariant.0, one_more _ _ c.loop-turns.invariant.1 _ _ c.take_letter-got.ensures)
 
 pub returns : goal.returns
 returns c = c.loop-turns.invariant.1
