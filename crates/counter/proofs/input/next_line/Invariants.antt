@@ -3,7 +3,7 @@ use native.Mathlib.Omega.{arith}
 use lib.ListN.{length}
 use borrow.Author.Rules.{rules}
 use Rattle.counter.specs.Input.{partly}
-use Rattle.counter.specs.Whole.{SomeLine, none_yet, one_more}
+use Rattle.counter.specs.Whole.{SomeLine, none_yet, one_more_lem}
 use Rattle.counter.proofs.input.next_line.Given as goal
 
 abbrev pub invariant-loop-turns : goal.invariant-loop-turns

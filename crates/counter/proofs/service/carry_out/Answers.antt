@@ -19,11 +19,11 @@ loop-at-smaller c = let h = further _ _ _ _ _ _ c.loop-at-test.true _ c.next_com
 
 pub loop-at-preserved : goal.loop-at-preserved
 loop-at-preserved c = (
-  c.next_command-turn.auto.table.1.1.0 ∙ c.loop-at.invariant.0,
-  c.next_command-turn.auto.table.1.1.1.0 ∙ c.loop-at.invariant.1,
-  c.next_command-turn.auto.table.1.1.1.1.0 ∙ c.loop-at.invariant.2,
-  c.next_command-turn.auto.table.1.1.1.1.1.0 ∙ c.loop-at.invariant.3,
-  c.next_command-turn.auto.table.1.1.1.1.1.1.0 ∙ c.loop-at.invariant.4,
+  c.next_command-turn.auto.table ∙ c.loop-at.invariant.0,
+  c.next_command-turn.auto.out ∙ c.loop-at.invariant.1,
+  c.next_command-turn.auto.kept ∙ c.loop-at.invariant.2,
+  c.next_command-turn.auto.ends ∙ c.loop-at.invariant.3,
+  c.next_command-turn.auto.paper ∙ c.loop-at.invariant.4,
   step _ _ _ _ _ _ c.loop-at-test.true _ c.next_command-turn.ensures ∙ c.loop-at.invariant.5,
 )
 
