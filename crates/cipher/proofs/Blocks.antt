@@ -11,7 +11,7 @@ use Rattle.ground.specs.Lists.{Below, below_take, below_drop, below_append, none
 use Rattle.cipher.specs.Bits.{word, bytes}
 use Rattle.fips81.specs.Fips81.{cut, blocks, joined, last_block}
 use Rattle.cipher.specs.Cipher.{Octets, Whole}
-use Rattle.fips81.specs.Turns.{last}
+use Rattle.fips81.proofs.Turns.{last}
 
 -- ---- eight bytes and a word
 

@@ -13,8 +13,8 @@ use Rattle.engine.proofs.Undoing.{computed_lt, computed_back}
 use Rattle.fips81.specs.declared.Turn.{Turn}
 use Rattle.fips81.specs.Fips81.{turned, keys_for, codebook, chain, unchain, given, left, blocks, joined}
 use Rattle.fips81.specs.Keyed.{enciphered, deciphered, text_of, vector_of, turn_of}
-use Rattle.fips81.specs.Turns.{Undoes, given-length, given_join, left_join, given_back, left_back, Bounded, given_below, left_lt}
-use Rattle.fips81.specs.Turns.{last, left-given, left-taken, left_still, feedback_64, unfeedback_64, turn_bounded, turn_undone}
+use Rattle.fips81.proofs.Turns.{Undoes, given-length, given_join, left_join, given_back, left_back, Bounded, given_below, left_lt}
+use Rattle.fips81.proofs.Turns.{last, left-given, left-taken, left_still, feedback_64, unfeedback_64, turn_bounded, turn_undone}
 use Rattle.cipher.specs.declared.modes.Mode.{Mode}
 use Rattle.cipher.specs.declared.modes.Mode.TheVariants.{Ecbe, Ecbd, Cbce, Cbcd, Cfbe, Cfbd}
 use Rattle.cipher.specs.declared.modes.Verdict.TheVariants.{Done, BadLength, NoRoom}

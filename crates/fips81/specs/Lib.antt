@@ -1,3 +1,2 @@
 pub mod Fips81
 pub mod Keyed
-pub mod Turns

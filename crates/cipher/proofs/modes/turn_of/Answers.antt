@@ -3,7 +3,7 @@ use Rattle.fips81.specs.Fips81.{turned, codebook, chain, unchain}
 use Rattle.engine.specs.Fips46.{computed}
 use Rattle.cipher.specs.Cipher.{way_of, direction_of}
 use Rattle.engine.proofs.Undoing.{computed_lt}
-use Rattle.fips81.specs.Turns.{feedback_64, unfeedback_64}
+use Rattle.fips81.proofs.Turns.{feedback_64, unfeedback_64}
 use Rattle.cipher.proofs.modes.turn_of.Goals as goal
 
 pub returns-in-Ecbe : goal.returns-in-Ecbe
