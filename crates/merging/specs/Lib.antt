@@ -1,9 +1,7 @@
 pub mod Ids
 pub mod Demand3
-pub mod Places
 pub mod Tables
 pub mod OneCommand
-pub mod Merges
 pub mod Theorem
 pub mod Examples
 pub mod Faults

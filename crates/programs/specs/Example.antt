@@ -1,31 +1,15 @@
 -- The page's worked example: its input, and the lines that NOTARY prints.
-use Rattle.std.specs.Prelude.{◌≡◌, refl, false, cond, [], ◌∷◌, ◌++◌, ℕ, ◌+◌, ◌-◌, ◌*◌, eqb, ltb}
-use Rattle.std.proofs.Common.{ap}
-use Rattle.std.proofs.Math.Option.{none}
+use Rattle.std.specs.Prelude.{cond, [], ◌∷◌, ◌++◌, ℕ, ◌+◌, ◌-◌, ◌*◌, eqb, ltb}
 use Prim.Native.Char.{code}
 use Prim.Native.String.{String, [] as no-letters, ◌∷◌ as ◌then◌}
-use Rattle.ground.specs.Lists.{padded}
-use Rattle.ground.specs.Rows.{row, digits}
-use Rattle.keys.specs.Keys.{odd, parity_of}
-use Rattle.stream.specs.Fields.{length_at, field_at}
-use Rattle.stream.specs.Commands.{arguments_of, form_of, has_size, blank, filled, begun, is_argument, took, read_one, read_all, ended, decoded}
 use Rattle.printout.specs.Text.{letters}
-use Rattle.printout.specs.Digits.{hex_digit, hex_byte, decimal_in, decimal}
-use Rattle.printout.specs.Lines.{shown, line}
-use Rattle.state.specs.State.{Bytes, find, all_taken, with_places, bare, give, seat_of, named, key_at, rekeyed}
-use Rattle.table.specs.Entries.{fits, id_of, entry_in, entry_of}
-use Rattle.table.specs.Passwords.{big, same}
+use Rattle.state.specs.State.{Bytes, with_places, bare, give}
 use Rattle.rules.specs.declared.Answer.TheVariants.{Done, Refused}
 use Rattle.rules.specs.World.{World, over}
-use Rattle.rules.specs.Commands.{RAS, by, EIK, IPW, refusals, effect, tests, keyed}
-use Rattle.rules.specs.Step.{Result, plain, result, rule, step}
-use Rattle.rules.specs.Sides.{mode_side}
-use Rattle.rules.specs.Refusals.{big_pair, test, of_own, lacks_entry, out_of_turn}
-use Rattle.facility.specs.Requests.{rows, performed}
-use Rattle.properties.specs.Steps.{accepted_first, done-step}
-use Rattle.properties.specs.Passwords.{Stands, ipw_stands, ras-done}
-use Rattle.session.specs.Run.{answered, answer_to, carry_on, ran_from, transcript}
-use Rattle.programs.specs.Notary.{stream, buffer, start, notary}
+use Rattle.rules.specs.Commands.{EIK, IPW}
+use Rattle.rules.specs.Step.{Result, plain, step}
+use Rattle.session.specs.Run.{answered, carry_on, transcript}
+use Rattle.programs.specs.Notary.{buffer, start}
 
 -- ---- as the page prints it
 
@@ -73,39 +57,24 @@ output =
 abbrev key : Bytes
 key = bytes "0101010101010101"
 
-abbrev password : Bytes
+abbrev pub password : Bytes
 password = bytes "0102030405060708"
 
 -- key 1 entered, by the first command; then the password of 5, by the sixth
-abbrev entered_1 : World
+abbrev pub entered_1 : World
 entered_1 = (step start (EIK 1 key) buffer).world
 
-abbrev enrolled_5 : World
+abbrev pub enrolled_5 : World
 enrolled_5 = (step entered_1 (IPW 5 password) buffer).world
 
-stands : Stands enrolled_5 5 password
-unfolding start step tests test big fits keyed rekeyed named key_at of_own same parity_of odd digits lacks_entry entry_of entry_in id_of row
-stands = ipw_stands entered_1 5 password buffer refl
-
--- nobody is active
-nobody : (find 5 enrolled_5.facility.places ≡ none) × (all_taken enrolled_5.facility.places ≡ false)
-unfolding start step tests test big fits keyed rekeyed named key_at of_own same parity_of odd digits lacks_entry entry_of entry_in id_of row
-nobody = (refl, refl)
-
 -- 5 is
-abbrev active_5 : World
+abbrev pub active_5 : World
 active_5 = over (with_places enrolled_5.facility (give 5 bare enrolled_5.facility.places)) enrolled_5.table
-
-admitted : step enrolled_5 (by 5 (RAS password)) buffer ≡ result (plain Done buffer) active_5
-unfolding effect
-admitted =
-    let done = ras-done enrolled_5 5 password buffer stands nobody.0 nobody.1 in
-    done-step enrolled_5 5 (RAS password) buffer (accepted_first enrolled_5 5 (RAS password) buffer done.0)
 
 -- ---- all lines are computed, but for what RAS comes to
 
 -- where RAS came to r; behind it, at 116, reading goes on
-abbrev lines : Result → Bytes
+abbrev pub lines : Result → Bytes
 lines r =
     transcript 1
     (answered 0x20 (plain Done buffer)
@@ -116,11 +85,3 @@ lines r =
     ∷ answered 0x21 (plain Done buffer)
     ∷ answered 0x01 r.answered
     ∷ (carry_on 142 input r.world r.answered.output 116).answers)
-
-pub worked_example : notary input ≡ output
-unfolding notary stream start ran_from carry_on field_at length_at row
-    answer_to decoded ended read_all read_one took is_argument has_size filled begun blank form_of arguments_of padded performed rows
-    step tests rule refusals mode_side effect test out_of_turn of_own big_pair big fits same parity_of odd digits
-    keyed rekeyed named key_at seat_of give bare lacks_entry entry_of entry_in id_of
-    transcript line decimal decimal_in hex_byte hex_digit shown
-worked_example = ap lines admitted

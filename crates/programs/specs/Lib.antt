@@ -1,4 +1,2 @@
 pub mod Notary
-pub mod Room
-pub mod Laws
 pub mod Example

@@ -1,9 +1,7 @@
 -- "The desk keeps the bytes of its answers for `$n`: of the first 4096 answers, while they find room in 1048576 bytes."
-use Rattle.std.specs.Prelude.{◌≡◌, refl, Bool, cond, List, [], ◌∷◌, ◌++◌, ℕ, suc, ◌+◌, ◌≤◌, ◌<◌, leb, length, get_or, replicate}
-use Rattle.std.proofs.lemmas.List.{length-replicate}
-use Rattle.printout.specs.Page.{page}
+use Rattle.std.specs.Prelude.{◌≡◌, Bool, cond, List, [], ◌∷◌, ◌++◌, ℕ, suc, ◌+◌, ◌≤◌, ◌<◌, leb, length, get_or}
 use Rattle.session.specs.Run.{Answered, shown_of}
-use Rattle.counter.specs.Kept.{Books, books}
+use Rattle.counter.specs.Kept.{Books}
 
 abbrev pub bytes_of : Answered → List ℕ
 bytes_of a = shown_of a.told.answer a.told.block a.told.output
@@ -38,7 +36,3 @@ pub record Fresh (first room : ℕ) (b : Books) : Type 0 where
   pub size : length b.bytes.letters ≡ room
   pub marks : length b.ends ≡ suc first
   pub start : get_or b.ends 0 0 ≡ 0
-
--- such are those with which the desk begins
-pub fresh-books : (first room : ℕ) → Fresh first room (books 0 (page (replicate room 0) 0) (replicate (suc first) 0))
-fresh-books first room = record { none = refl; empty = refl; size = length-replicate room 0; marks = length-replicate (suc first) 0; start = refl }

@@ -1,4 +1,4 @@
-use Rattle.encoder.specs.ByForm.{count_most, put_whole, put_nothing}
+use Rattle.encoder.proofs.ByForm.{count_most, put_whole, put_nothing}
 use borrow.Author.Rules.{rules}
 use Rattle.encoder.proofs.put_command.Goals as goal
 

@@ -1,7 +1,7 @@
 use mathlib.Core.Path.{refl}
 use borrow.Author.Rules.{rules}
 use Rattle.programs.specs.Notary.{stream, buffer, start}
-use Rattle.programs.specs.Room.{carried_out_lem}
+use Rattle.programs.proofs.Room.{carried_out_lem}
 use Rattle.programs.proofs.notary.print_notary.Goals as goal
 
 pub returns : goal.returns

@@ -1,7 +1,7 @@
 use mathlib.Core.Path.{sym, ◌∙◌}
 use native.Mathlib.Omega.{arith}
 use Rattle.state.specs.State.{rekeyed}
-use Rattle.state.specs.Located.{named_in}
+use Rattle.state.proofs.Located.{named_in}
 use borrow.Author.Rules.{rules}
 use Rattle.state.proofs.interchanges.change_key.Goals as goal
 

@@ -1,5 +1,5 @@
 use Rattle.state.specs.State.{bare}
-use Rattle.state.specs.Located.{shut_found, shut_free, shut_full}
+use Rattle.state.proofs.Located.{shut_found, shut_free, shut_full}
 use borrow.Author.Rules.{rules}
 use Rattle.state.proofs.places.is_shut_to.Goals as goal
 

@@ -1,4 +1,4 @@
-use Rattle.state.specs.Located.{below16, below16_free, give_found, give-free, give_full}
+use Rattle.state.proofs.Located.{below16, below16_free, give_found, give-free, give_full}
 use native.Mathlib.Omega.{arith}
 use Prim.Native.Nat.{◌<◌}
 use borrow.Author.Rules.{rules}

@@ -9,7 +9,8 @@ use lib.ListN.{get_or}
 use mathlib.Core.List.{List}
 use Rattle.state.specs.declared.Place.{Place}
 use Rattle.state.specs.State.{has}
-use Rattle.state.specs.Located.{Before, spare, more, has_yes, has-free, has_other}
+use Rattle.state.specs.Located.{Before, spare}
+use Rattle.state.proofs.Located.{more, has_yes, has-free, has_other}
 use Rattle.state.proofs.places.place_of.Goals as goal
 
 pub loop-i-init : goal.loop-i-init

@@ -1,5 +1,5 @@
 use Rattle.state.specs.State.{seat_of}
-use Rattle.state.specs.Located.{below16, find_found, find_missing}
+use Rattle.state.proofs.Located.{below16, find_found, find_missing}
 use native.Mathlib.Omega.{arith}
 use Prim.Native.Nat.{◌<◌}
 use borrow.Author.Rules.{rules}

@@ -1,0 +1,2 @@
+pub mod ByForm
+pub mod RoundTrip

@@ -1,0 +1,5 @@
+pub mod FieldLaws
+pub mod GrammarLaws
+pub mod ReadLaws
+pub mod RequestLaws
+pub mod Exact

@@ -1,0 +1,171 @@
+-- A command's value, read argument by argument: what fits is spelled, and what is spelled fits.
+use Rattle.std.specs.Prelude.{◌≡◌, Bool, false, cond, ℕ, zero, suc, ◌+◌, ◌-◌, ◌≤◌, ◌<◌, eqb, drop}
+use Rattle.std.proofs.Math.Path.{refl, sym, ap, ap₂}
+use Rattle.std.proofs.Common.{◌∙◌, subst, le_of_suc-le-suc, not-suc-le-zero, length-drop}
+use Rattle.std.proofs.Math.Bool.{true}
+use Rattle.std.proofs.lemmas.Bool.{false≢true}
+use mathlib.Core.List.{List, [], ◌∷◌, ◌++◌, append_assoc}
+use native.Mathlib.Omega.{arith}
+use Rattle.std.proofs.Math.ListN.{length}
+use borrow.Author.Tests.{eqb-true, eqb-false, eq-eqb, ne_eqb}
+use Rattle.ground.specs.Search.{by_test}
+use Rattle.ground.specs.Lists.{Below, padded, below_take, below_drop}
+use Rattle.stream.specs.declared.Field.{Field}
+use Rattle.stream.specs.declared.Field.TheVariants.{Whole, Cut, End}
+use Rattle.stream.specs.declared.Request.{Request}
+use Rattle.stream.specs.declared.Reading.{Reading}
+use Rattle.stream.specs.Fields.{Bytes, field, part, field_at, part_length, within}
+use Rattle.stream.proofs.FieldLaws.{part_none, whole_is_field, whole_short, field_is_whole, field_value, field_rest}
+use Rattle.stream.specs.Commands.{has_size, begun, is_argument, argument_is, took, read_one, read_all}
+use Rattle.stream.specs.Grammar.{argument, spelled, among}
+use Rattle.stream.specs.RequestLaws.{Sound}
+use Rattle.stream.proofs.RequestLaws.{own, other, stays_sound, sized, in_bytes, short_argument, no_data}
+use Rattle.stream.specs.GrammarLaws.{ascending}
+use Rattle.stream.proofs.GrammarLaws.{neither, above, up_to, later, not-among}
+use Rattle.stream.specs.ReadLaws.{said, tells, taken, Read, Done}
+
+module _ (v : Bytes) (r : Reading) (k : ℕ) (low : 0x80 < k) (fit : r.fits ≡ true) where
+  read-field : read_one v r k ≡ took v r k (field_at v r.at)
+  unfolding read_one
+  read-field = rw (ne_eqb k 0 (λ e. omega arith), fit)
+
+  read_whole : (s e : ℕ) → field_at v r.at ≡ Whole k s e → has_size k (e - s) ≡ true → read_one v r k ≡ taken v r k s e
+  unfolding took is_argument
+  read_whole s e f size = read-field ∙ rw (f, eq-eqb k k refl, size)
+
+  -- what is read is a whole field
+  fits_whole : (read_one v r k).fits ≡ true → (s : ℕ) × (e : ℕ) × (field_at v r.at ≡ Whole k s e) × (has_size k (e - s) ≡ true)
+  unfolding took begun
+  fits_whole h = go (field_at v r.at) refl (ap (λ (q : Reading). q.fits) (sym read-field) ∙ h)
+    where
+      go : (f : Field) → field_at v r.at ≡ f → (took v r k f).fits ≡ true → (s : ℕ) × (e : ℕ) × (field_at v r.at ≡ Whole k s e) × (has_size k (e - s) ≡ true)
+      go (Whole tag s e) q h =
+          let x : is_argument k tag (e - s) ≡ true = by_test (is_argument k tag (e - s)) (λ b. b) (λ b. absurd (false≢true (rw b at h))) in
+          let y = argument_is k tag (e - s) x in
+          (s, e, q ∙ ap (λ (n : ℕ). Whole n s e) y.0, y.1)
+      go (Cut tag) q h = absurd (false≢true h)
+      go End q h = absurd (false≢true h)
+
+-- no value that failed fits again
+pub stuck : (v : Bytes) (ks : List ℕ) (r : Reading) → r.fits ≡ false → (read_all v r ks).fits ≡ false
+unfolding read_all read_one
+stuck v [] r h = h
+stuck v (k ∷ ks) r h = stuck v ks (read_one v r k) (by_test (eqb k 0) (λ e. rw (e, h)) (λ e. rw (e, h)))
+
+fit_before : (v : Bytes) (ks : List ℕ) (r : Reading) → (read_all v r ks).fits ≡ true → r.fits ≡ true
+fit_before v ks r h = by_test r.fits (λ e. e) (λ e. absurd (false≢true (sym (stuck v ks r e) ∙ h)))
+
+-- zeros are passed over
+pub read-padded : (v : Bytes) (r : Reading) (n : ℕ) (ks : List ℕ) → length ks ≤ n → read_all v r (padded n ks) ≡ read_all v r ks
+unfolding read_all read_one padded
+read-padded v r zero [] h = refl
+read-padded v r zero (k ∷ ks) h = absurd (not-suc-le-zero h)
+read-padded v r (suc n) [] h = read-padded v r n [] (omega arith)
+read-padded v r (suc n) (k ∷ ks) h = read-padded v (read_one v r k) n ks (le_of_suc-le-suc h)
+
+module _ (v : Bytes) (r : Reading) (k s e : ℕ) (low : 0x80 < k) (high : k ≤ 0x87) where
+  next-blank : k < 0x87 → said v (taken v r k s e) ≡ []
+  next-blank h = ap (λ (b : Bool). part (cond b s e) e v) (ne_eqb k 0x87 (λ q. omega arith)) ∙ part_none e v
+
+  -- it says what it said of every other field
+  next_other : (j : ℕ) → eqb j k ≡ false → (k < 0x87 → said v r ≡ []) → tells v (taken v r k s e) j ≡ tells v r j
+  next_other j n z =
+      other k low high (part s e v) r.asked (said v (taken v r k s e)) j n
+      ∙ by_test (eqb k 0x87)
+      (λ q. no_data j r.asked (said v (taken v r k s e)) (said v r) (subst (λ (m : ℕ). eqb j m ≡ false) (eqb-true k 0x87 q) n))
+      (λ q.
+      let h : k < 0x87 = omega (arith, eqb-false k 0x87 q) in
+      ap (argument j r.asked) (next-blank h ∙ sym (z h)))
+
+  module _ (size : has_size k (length (part s e v)) ≡ true) (bytes : k < 0x83 → Below 256 (part s e v)) where
+    next-own : tells v (taken v r k s e) k ≡ part s e v
+    next-own =
+        own k low high (part s e v) r.asked (said v (taken v r k s e)) size bytes
+        (λ q. ap (λ (b : Bool). part (cond b s e) e v) (eq-eqb k 0x87 q))
+
+part_bytes : (s e : ℕ) (v : Bytes) → Below 256 v → Below 256 (part s e v)
+part_bytes s e v h = below_take 256 (e - s) (drop s v) (omega arith) (below_drop 256 s v h)
+
+module _ (t : ℕ) (v : Bytes) (all-bytes : Below 256 v) where
+  -- one field more before those read
+  module _ (n k : ℕ) (ks : List ℕ) (r : Reading) (s e : ℕ) (base : 0x80 ≤ n) (up : ascending n (k ∷ ks) ≡ true) (clear : n < 0x87 → said v r ≡ [])
+      (whole : field_at v r.at ≡ Whole k s e) (size : has_size k (e - s) ≡ true) where
+    low : 0x80 < k
+    low = let u = above n k ks up in omega arith
+
+    length-fits : has_size k (length (part s e v)) ≡ true
+    length-fits = let w = within v r.at k s e whole in ap (has_size k) (part_length s e v w.1 w.2) ∙ size
+
+    step_sound : Sound t r.asked → Sound t (taken v r k s e).asked
+    step_sound c = stays_sound k low (up_to n k ks up) t (part s e v) r.asked length-fits (λ h. part_bytes s e v all-bytes) c
+
+    step_short : length (said v (taken v r k s e)) < 65536
+    step_short =
+        by_test (eqb k 0x87)
+        (λ q. rw q (whole_short v r.at k s e all-bytes whole))
+        (λ q. rw (q, part_none e v) (omega arith))
+
+    before : (q : Reading) → Read t v ks (taken v r k s e) q → Read t v (k ∷ ks) r q
+    unfolding spelled among
+    before q read =
+        let high = up_to n k ks up in
+        let mine : tells v q k ≡ part s e v = read.others k (not-among k ks k (later n k ks up) (omega arith)) ∙ next-own v r k s e low high length-fits (λ h. part_bytes s e v all-bytes) in
+        record {
+          bytes = whole_is_field v r.at k s e all-bytes whole
+              ∙ ap₂ (λ (x y : Bytes). field k x ++ y) (sym mine) read.bytes
+              ∙ sym (append_assoc (field k (tells v q k)) (spelled ks q.asked (said v q)) (drop q.at v));
+          others = λ j x.
+              let y = neither (eqb j k) (among j ks) x in
+              let u = above n k ks up in
+              read.others j y.1 ∙ next_other v r k s e low high j y.0 (λ h. clear (omega arith));
+          sound = read.sound;
+          short = read.short;
+        }
+
+  pub fits_read : (n : ℕ) (ks : List ℕ) (r : Reading) → 0x80 ≤ n → ascending n ks ≡ true → (n < 0x87 → said v r ≡ []) → Sound t r.asked → length (said v r) < 65536
+      → r.fits ≡ true → (read_all v r ks).fits ≡ true → Read t v ks r (read_all v r ks)
+  unfolding read_all spelled
+  fits_read n [] r base up clear c l fit h = record { bytes = refl; others = λ j x. refl; sound = c; short = l }
+  fits_read n (k ∷ ks) r base up clear c l fit h =
+      let u = above n k ks up in
+      let w = fits_whole v r k (omega arith) fit (fit_before v ks (read_one v r k) h) in
+      let is : read_one v r k ≡ taken v r k w.0 w.1 = read_whole v r k (omega arith) fit w.0 w.1 w.2 w.3 in
+      rw is
+      (before n k ks r w.0 w.1 base up clear w.2 w.3 (read_all v (taken v r k w.0 w.1) ks)
+      (fits_read k ks (taken v r k w.0 w.1) (omega arith) (later n k ks up)
+      (next-blank v r k w.0 w.1 (omega arith) (up_to n k ks up))
+      (step_sound n k ks r w.0 w.1 base up clear w.2 w.3 c)
+      (step_short n k ks r w.0 w.1 base up clear w.2 w.3)
+      refl
+      (subst (λ (q : Reading). (read_all v q ks).fits ≡ true) is h)))
+
+module _ (t : ℕ) (v : Bytes) (a : Request) (d : Bytes) (proper : Sound t a) (small : length d < 65536) where
+  pub spelled-read : (n : ℕ) (ks : List ℕ) (r : Reading) → 0x80 ≤ n → ascending n ks ≡ true → (n < 0x87 → said v r ≡ []) → Sound t r.asked
+      → r.fits ≡ true → r.at ≤ length v → drop r.at v ≡ spelled ks a d → ((j : ℕ) → among j ks ≡ false → tells v r j ≡ argument j a d)
+      → Done t v a d (read_all v r ks)
+  unfolding read_all spelled among
+  spelled-read n [] r base up clear c fit l h says =
+      let z = sym (length-drop r.at v) ∙ ap length h in
+      record { fits = fit; end = omega arith; says = λ j. says j refl; sound = c }
+  spelled-read n (k ∷ ks) r base up clear c fit l h says =
+      let u = above n k ks up in
+      let b = argument k a d in
+      let low : 0x80 < k = omega arith in
+      let high = up_to n k ks up in
+      let s = r.at + 3 in
+      let e = r.at + 3 + length b in
+      let whole : field_at v r.at ≡ Whole k s e = field_is_whole v r.at k b (spelled ks a d) (short_argument k low high t a d proper small) h in
+      let value : part s e v ≡ b = field_value v r.at k b (spelled ks a d) h in
+      let size : has_size k (length (part s e v)) ≡ true = rw value (sized k low high t a d proper) in
+      let bytes : k < 0x83 → Below 256 (part s e v) = λ x. rw value (in_bytes k low high a d x) in
+      let w = within v r.at k s e whole in
+      let is : read_one v r k ≡ taken v r k s e = read_whole v r k low fit s e whole (ap (has_size k) (sym (part_length s e v w.1 w.2)) ∙ size) in
+      rw is
+      (spelled-read k ks (taken v r k s e) (omega arith) (later n k ks up) (next-blank v r k s e low high)
+      (stays_sound k low high t (part s e v) r.asked size bytes c)
+      refl
+      w.2
+      (field_rest v r.at k b (spelled ks a d) h)
+      (λ j x. by_test (eqb j k)
+      (λ y. rw (eqb-true j k y) (next-own v r k s e low high size bytes ∙ value))
+      (λ y. next_other v r k s e low high j y (λ z. clear (omega arith)) ∙ says j (rw (y, x)))))
