@@ -1,171 +1,110 @@
 -- Demand 2 from end to end, in commands, replies and the bytes that go between: what i enciphers under a key that he made for j, j deciphers, at whatever facility he sits.
-use Rattle.std.specs.Prelude.{◌≡◌, ℕ, length, take}
-use Rattle.cipher.specs.Cipher.{Way, ECB, CBC, CFB, enciphering, deciphering, enciphered, mode_text, fixity}
+use Rattle.std.specs.Prelude.{ℕ}
+use Rattle.cipher.specs.Cipher.{Way, ECB, CBC, CFB, enciphering, deciphering}
 use Rattle.cipher.specs.declared.modes.Mode.{Mode}
 use Rattle.cipher.specs.declared.modes.Mode.TheVariants.{Ecbe, Ecbd, Cbce, Cbcd, Cfbe, Cfbd}
-use Rattle.keys.specs.Keys.{parity_of, notarized}
+use Rattle.keys.specs.Keys.{parity_of}
 use Rattle.keys.proofs.Laws.{parity_octets}
 use Rattle.state.specs.State.{Bytes}
-use Rattle.rules.specs.declared.Answer.TheVariants.{Done, Gave, Wrote}
 use Rattle.rules.specs.World.{World}
-use Rattle.rules.specs.Commands.{by, GDK, LDK, GIV, LIV, DAUT, mode}
+use Rattle.rules.specs.Commands.{by, GDK}
 use Rattle.rules.specs.Step.{Result, step}
-use Rattle.properties.specs.Held.{IsActive, IsSmall, as_t, as_r, HasCurrent, current_key, SharedKey, Brought, GoodText, Gives, sides_of, Same, Loaded, Vectored, Leaves}
+use Rattle.properties.specs.Held.{as_t, GoodText, sides_of, Same, Loaded, Vectored, Leaves}
 use Rattle.properties.specs.Demand2.{Generates, Recovered}
 use Rattle.properties.proofs.Demand2.{recovered}
 use Rattle.properties.proofs.Walk.{then_equipped, Walked, walked}
 use Rattle.properties.specs.Coded.{Equipped, Opened}
 use Rattle.properties.proofs.Coded.{Sent, sent}
 use Rattle.properties.proofs.Valued.{value_t, value_r}
+use Rattle.properties.specs.Delivered.{Premises, Delivered, cipher, liv_t, ldk_r, liv_r}
 
--- i sits at F, j at G. i makes a key of the bits and a vector of the seed, over the interchange that F calls p and G calls q, and sends the text
-module _ (F G : World) (i j p q : ℕ) (bits seed text out out' : Bytes) where
-  pub record Premises : Type 0 where
-    -- each is active where he sits; they are two, and their identifiers are at most 268435455
-    pub sender : IsActive i F
-    pub receiver : IsActive j G
-    pub two : i ≡ j → ⊥
-    pub small_i : IsSmall i
-    pub small_j : IsSmall j
-    -- the interchange has a current key at F, and at G the same, but for parity bits perhaps
-    pub current : HasCurrent p F
-    pub shared : SharedKey F p G q
-    -- bits and seed are eight bytes each; the text is whole blocks, one at least and at most 32768 bytes; each output has room for it
-    pub brought : Brought bits seed text out out'
+-- ---- the proof: demand 2 for the key, then for the vector, then the text
 
-  module _ (E D : Mode) where
-    -- ---- the run
+module _ (F G : World) (i j p q : ℕ) (bits seed text out out' : Bytes) (x : Premises F G i j p q bits seed text out out') where
+  -- the run of these two at these facilities
+  abbrev liv_t' : Mode → Mode → Result
+  liv_t' = liv_t F G i j p q bits seed text out out'
 
-    -- at F i's five commands, each in the world that the one before left: a key for j, loaded as t; a vector, loaded as t; the text by E
-    abbrev pub gdk : Result
-    gdk = step F (by i (GDK j p bits)) out
+  abbrev ldk_r' : Mode → Mode → Result
+  ldk_r' = ldk_r F G i j p q bits seed text out out'
 
-    abbrev pub key-block : Bytes
-    key-block = gdk.answered.block
+  abbrev liv_r' : Mode → Mode → Result
+  liv_r' = liv_r F G i j p q bits seed text out out'
 
-    abbrev pub ldk_t : Result
-    ldk_t = step gdk.world (by i (LDK j p as_t key-block)) out
+  abbrev cipher' : Mode → Mode → Bytes
+  cipher' = cipher F G i j p q bits seed text out out'
 
-    abbrev pub giv : Result
-    giv = step ldk_t.world (by i (GIV seed)) out
+  abbrev Delivered' : Mode → Mode → Type 0
+  Delivered' = Delivered F G i j p q bits seed text out out'
 
-    abbrev pub vector-block : Bytes
-    vector-block = giv.answered.block
+  abbrev key : Bytes
+  key = parity_of bits
 
-    abbrev pub liv_t : Result
-    liv_t = step giv.world (by i (LIV as_t vector-block)) out
+  abbrev vector : Bytes
+  vector = parity_of seed
 
-    abbrev pub e : Result
-    e = step liv_t.world (by i (mode E text)) out
+  generates : Generates F i j p bits
+  generates = record { active = x.sender; small_i = x.small_i; small_j = x.small_j; current = x.current; bits_eight = x.brought.bits_eight }
 
-    -- the cipher text: what i's output then begins with
-    abbrev pub cipher : Bytes
-    cipher = take (length text) e.answered.output
+  key-given : Recovered F p i j (step F (by i (GDK j p bits)) out).answered.block key
+  key-given = recovered F i j p bits out generates
 
-    -- at G j's three: the key, loaded as r, naming i; the vector, loaded as r; the cipher text by D
-    abbrev pub ldk_r : Result
-    ldk_r = step G (by j (LDK i q as_r key-block)) out'
+  -- i's commands up to the text
+  at_F : Walked F i j p as_t bits seed out Same Same
+  at_F =
+      walked F i j p as_t bits seed out Same Same generates x.brought.seed_eight
+      (λ W s a. key-given.transmitted W p out s x.two a)
+      (λ W b v a k. v.to_transmit W i out a x.small_i k)
 
-    abbrev pub liv_r : Result
-    liv_r = step ldk_r.world (by j (LIV as_r vector-block)) out'
+  module _ (y : Way) where
+    abbrev E : Mode
+    E = enciphering y
 
-    abbrev pub d : Result
-    d = step liv_r.world (by j (mode D cipher)) out'
+    abbrev D : Mode
+    D = deciphering y
 
-    -- ---- what comes of it
+    -- the text by E
+    coded : Sent y (liv_t' E D).world i key vector text out
+    coded = sent y (liv_t' E D).world i key vector text out at_F.set.active x.small_i at_F.equipped x.brought.good_text x.brought.room
 
-    pub record Delivered : Type 0 where
-      -- each command is done
-      pub gdk_gives : gdk.answered.answer ≡ Gave 8
-      pub ldk_t-done : ldk_t.answered.answer ≡ Done
-      pub giv_gives : giv.answered.answer ≡ Gave 8
-      pub liv_t-done : liv_t.answered.answer ≡ Done
-      pub e_writes : e.answered.answer ≡ Wrote (length text)
-      pub ldk_r-done : ldk_r.answered.answer ≡ Done
-      pub liv_r-done : liv_r.answered.answer ≡ Done
-      pub d_writes : d.answered.answer ≡ Wrote (length text)
-      -- what goes from F to G: the bits with parity set, under the interchange key notarized with (i, j); the seed with parity set, under those bits;
-      -- and the text by E, under those bits, from that seed
-      pub key-sealed : key-block ≡ enciphered (notarized (current_key p F) i j) (parity_of bits)
-      pub vector-sealed : vector-block ≡ enciphered (parity_of bits) (parity_of seed)
-      pub text-sealed : cipher ≡ mode_text E (parity_of bits) (parity_of seed) text
-      -- what j gets is the text
-      pub text_back : take (length text) d.answered.output ≡ text
-      -- and its fixity value, taken before it is enciphered and before it is deciphered, is one for both: under those bits, from that seed, over the plain text
-      pub value_t : Gives liv_t.world (fixity (parity_of bits) (parity_of seed) text) out (step liv_t.world (by i (DAUT as_t text)) out)
-      pub value_r : Gives liv_r.world (fixity (parity_of bits) (parity_of seed) text) out' (step liv_r.world (by j (DAUT as_r text)) out')
+    -- j's commands
+    keyed : Leaves Same (Loaded key) j G (ldk_r' E D)
+    keyed = key-given.received G q out' x.shared x.two x.receiver
 
-  -- ---- the proof: demand 2 for the key, then for the vector, then the text
+    set : Leaves Same (Vectored vector) j (ldk_r' E D).world (liv_r' E D)
+    set = at_F.one_vector.to_receive (ldk_r' E D).world j out' keyed.active x.small_j keyed.to_receive.key
 
-  module _ (x : Premises) where
-    abbrev key : Bytes
-    key = parity_of bits
+    opened : Opened y (liv_r' E D).world j text (cipher' E D) out'
+    opened =
+        coded.opens (liv_r' E D).world j out' set.active x.small_j (then_equipped key vector keyed.to_receive set.to_receive)
+        (parity_octets seed x.brought.seed_eight) x.brought.room'
 
-    abbrev vector : Bytes
-    vector = parity_of seed
+    j_equipped : Equipped key vector (sides_of j (liv_r' E D).world).receive
+    j_equipped = then_equipped key vector keyed.to_receive set.to_receive
 
-    generates : Generates F i j p bits
-    generates = record { active = x.sender; small_i = x.small_i; small_j = x.small_j; current = x.current; bits_eight = x.brought.bits_eight }
+    good : GoodText text
+    good = x.brought.good_text
 
-    key-given : Recovered F p i j (step F (by i (GDK j p bits)) out).answered.block key
-    key-given = recovered F i j p bits out generates
+    goes_through : Delivered' E D
+    goes_through =
+        record {
+          gdk_gives = at_F.gave.answer;
+          ldk_t-done = at_F.keyed.done;
+          giv_gives = at_F.began.answer;
+          liv_t-done = at_F.set.done;
+          e_writes = coded.answer;
+          ldk_r-done = keyed.done;
+          liv_r-done = set.done;
+          d_writes = opened.answer;
+          key-sealed = at_F.gave.block;
+          vector-sealed = at_F.began.block;
+          text-sealed = coded.cipher_is;
+          text_back = opened.text_is;
+          value_t = value_t (liv_t' E D).world i key vector text out at_F.set.active x.small_i good.some_bytes good.limit at_F.equipped;
+          value_r = value_r (liv_r' E D).world j key vector text out' set.active x.small_j good.some_bytes good.limit j_equipped;
+        }
 
-    -- i's commands up to the text
-    at_F : Walked F i j p as_t bits seed out Same Same
-    at_F =
-        walked F i j p as_t bits seed out Same Same generates x.brought.seed_eight
-        (λ W s a. key-given.transmitted W p out s x.two a)
-        (λ W b v a k. v.to_transmit W i out a x.small_i k)
-
-    module _ (y : Way) where
-      abbrev E : Mode
-      E = enciphering y
-
-      abbrev D : Mode
-      D = deciphering y
-
-      -- the text by E
-      coded : Sent y (liv_t E D).world i key vector text out
-      coded = sent y (liv_t E D).world i key vector text out at_F.set.active x.small_i at_F.equipped x.brought.good_text x.brought.room
-
-      -- j's commands
-      keyed : Leaves Same (Loaded key) j G (ldk_r E D)
-      keyed = key-given.received G q out' x.shared x.two x.receiver
-
-      set : Leaves Same (Vectored vector) j (ldk_r E D).world (liv_r E D)
-      set = at_F.one_vector.to_receive (ldk_r E D).world j out' keyed.active x.small_j keyed.to_receive.key
-
-      opened : Opened y (liv_r E D).world j text (cipher E D) out'
-      opened =
-          coded.opens (liv_r E D).world j out' set.active x.small_j (then_equipped key vector keyed.to_receive set.to_receive)
-          (parity_octets seed x.brought.seed_eight) x.brought.room'
-
-      j_equipped : Equipped key vector (sides_of j (liv_r E D).world).receive
-      j_equipped = then_equipped key vector keyed.to_receive set.to_receive
-
-      good : GoodText text
-      good = x.brought.good_text
-
-      goes_through : Delivered E D
-      goes_through =
-          record {
-            gdk_gives = at_F.gave.answer;
-            ldk_t-done = at_F.keyed.done;
-            giv_gives = at_F.began.answer;
-            liv_t-done = at_F.set.done;
-            e_writes = coded.answer;
-            ldk_r-done = keyed.done;
-            liv_r-done = set.done;
-            d_writes = opened.answer;
-            key-sealed = at_F.gave.block;
-            vector-sealed = at_F.began.block;
-            text-sealed = coded.cipher_is;
-            text_back = opened.text_is;
-            value_t = value_t (liv_t E D).world i key vector text out at_F.set.active x.small_i good.some_bytes good.limit at_F.equipped;
-            value_r = value_r (liv_r E D).world j key vector text out' set.active x.small_j good.some_bytes good.limit j_equipped;
-          }
-
-    -- by ECB, by CBC and by CFB
-    pub delivered : Delivered Ecbe Ecbd × Delivered Cbce Cbcd × Delivered Cfbe Cfbd
-    unfolding enciphering deciphering
-    delivered = (goes_through ECB, goes_through CBC, goes_through CFB)
+  -- by ECB, by CBC and by CFB
+  pub delivered : Delivered F G i j p q bits seed text out out' Ecbe Ecbd × Delivered F G i j p q bits seed text out out' Cbce Cbcd × Delivered F G i j p q bits seed text out out' Cfbe Cfbd
+  unfolding enciphering deciphering
+  delivered = (goes_through ECB, goes_through CBC, goes_through CFB)

@@ -7,7 +7,8 @@ use Rattle.keys.specs.Keys.{parity_of}
 use Rattle.state.specs.State.{Bytes, find, seat_of, key_at}
 use Rattle.rules.specs.World.{World}
 use Rattle.properties.proofs.Others.{others_stay, keys_stay}
-use Rattle.properties.proofs.Delivered.{Premises, e, Delivered, delivered}
+use Rattle.properties.specs.Delivered.{Premises, e, Delivered}
+use Rattle.properties.proofs.Delivered.{delivered}
 
 -- the interchange may have two names there, p and q
 module _ (F : World) (i j p q : ℕ) (bits seed text out out' : Bytes) where

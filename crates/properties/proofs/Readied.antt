@@ -24,7 +24,8 @@ use Rattle.properties.specs.Passwords.{Inactive, Room}
 use Rattle.properties.proofs.Passwords.{ipw_stands, ras-done}
 use Rattle.properties.specs.Held.{Brought}
 use Rattle.properties.specs.Others.{holding}
-use Rattle.properties.proofs.Delivered.{Premises, Delivered, delivered}
+use Rattle.properties.specs.Delivered.{Premises, Delivered}
+use Rattle.properties.proofs.Delivered.{delivered}
 use Rattle.properties.proofs.OneFacility.{Through as InOneRun, in_one_run}
 use Rattle.properties.proofs.Oneself.{Premises as Alone, Kept, kept}
 use Rattle.properties.specs.Readied.{own, interchange, password₅, password₆, bits, seed, text, keyed₁}

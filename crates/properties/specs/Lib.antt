@@ -19,3 +19,4 @@ pub mod EvenParity
 pub mod Replaced
 pub mod Nobodys
 pub mod TwoCalls
+pub mod Delivered
