@@ -1,4 +1,4 @@
-// The tables of FIPS PUB 46, as they are printed: bits are numbered from 1, leftmost first. (Not laid out by `rt fmt`.)
+// The tables of FIPS PUB 46: bits are numbered from 1, leftmost first. (As they are printed they stand in `specs/Tables.antt`.)
 
 // The initial permutation: the bit that comes first is bit 58 of the input.
 pub const IP: [u8; 64] = [

@@ -1,4 +1,4 @@
-// The known answers of NBS SP 500-20, a published row on a line: key, plain block, cipher block. (Not laid out by `rt fmt`.)
+// The known answers of NBS SP 500-20, three numbers to a published row: key, plain block, cipher block.
 
 // The initial permutation and its inverse: each bit of the block by itself.
 pub const INITIAL_PERMUTATION: [u64; 192] = [
