@@ -1,7 +1,7 @@
 -- What the functions of this crate answer and leave: the cipher's own definitions, with a block as a number.
 use Rattle.std.specs.Prelude.{cond, List, ℕ, eqb}
 use Rattle.cipher.specs.Bits.{word, bytes}
-use Rattle.cipher.specs.Cipher.{Outcome, applied, Value, valued, number}
+use Rattle.cipher.specs.Cipher.{Outcome, applied, Value, number}
 use Rattle.cipher.specs.declared.modes.Mode.TheVariants.{Ecbe, Ecbd, Cbce, Cbcd, Cfbe, Cfbd}
 use Rattle.door.specs.declared.Asked.{Asked}
 use Rattle.door.specs.declared.Asked.TheVariants.{For, Nothing}

@@ -1,6 +1,6 @@
 -- A command's bytes by its form: the header with the size that was counted, and the argument fields.
 use Rattle.std.specs.Prelude.{ℕ, length, take}
-use mathlib.Core.List.{List, []}
+use mathlib.Core.List.{List}
 use Rattle.stream.specs.Fields.{Bytes}
 use Rattle.encoder.specs.Written.{all_sizes}
 

@@ -1,5 +1,5 @@
 -- Writing and decoding undo one another: what is written is read back, and what is read is written to the same bytes.
-use Rattle.std.specs.Prelude.{◌≡◌, true, [], ℕ, ◌+◌, length, drop}
+use Rattle.std.specs.Prelude.{◌≡◌, true, ℕ, ◌+◌, length, drop}
 use Rattle.stream.specs.declared.Field.TheVariants.{Whole}
 use Rattle.stream.specs.declared.Request.{Request}
 use Rattle.stream.specs.Fields.{Bytes, field_at, value_at}

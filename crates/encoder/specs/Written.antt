@@ -1,6 +1,6 @@
 -- The same by a command's form, with 0 for no argument: the argument fields, and how long they are.
 use Rattle.std.specs.Prelude.{◌≡◌, Bool, true, false, cond, List, [], ◌∷◌, ◌++◌, ℕ, suc, ◌+◌, ◌≤◌, ◌<◌, eqb, length, get_or, drop}
-use Rattle.std.proofs.Common.{sym, ap, ◌∙◌, add-one, arith, drop_of_length-le, drop-cons}
+use Rattle.std.proofs.Common.{add-one, arith, drop_of_length-le, drop-cons}
 use Rattle.printout.specs.Page.{Page, entered, then}
 use Rattle.stream.specs.declared.Request.{Request}
 use Rattle.stream.specs.declared.Form.{Form}

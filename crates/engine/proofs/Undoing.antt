@@ -1,7 +1,7 @@
 -- The computation with the keys in the other order undoes the computation.
 use mathlib.Core.Path.{◌≡◌, ap, ap₂, ◌∙◌}
 use mathlib.Core.List.{List, [], ◌∷◌, reverse, reverse_aux}
-use Prim.Native.Nat.{ℕ, ◌-◌, ◌/◌, ◌%◌, ◌^◌, ◌<◌}
+use Prim.Native.Nat.{ℕ, ◌/◌, ◌%◌, ◌^◌, ◌<◌}
 use native.Mathlib.Omega.{arith}
 use lib.Bits.{bit_xor, xor_lt}
 use lib.Pow.{high, low, split}

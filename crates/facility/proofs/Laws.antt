@@ -10,8 +10,8 @@ use Rattle.state.specs.State.{Bytes}
 use Rattle.rules.specs.declared.Answer.TheVariants.{Refused}
 use Rattle.rules.specs.World.{World}
 use Rattle.rules.specs.Commands.{Command}
-use Rattle.rules.specs.Step.{Result, result, plain, step}
-use Rattle.facility.specs.Requests.{Row, rows, beside, command_of, carried_out, performed}
+use Rattle.rules.specs.Step.{result, plain, step}
+use Rattle.facility.specs.Requests.{Row, rows, beside, carried_out, performed}
 
 -- T, and n is none of the rows' tags: what is known in the last arm of a match on n, nested as the checker nests it
 abbrev pub Apart : Type 0 → ℕ → List Row → Type 0

@@ -17,7 +17,6 @@ use Rattle.reader.specs.declared.Line.{Line}
 use Rattle.reader.specs.Line.{wrong_line, so_far}
 use Rattle.reader.specs.Raw.{raw_hex, raw_word, raw_turn, raw_turns, raw_start, raw_line}
 use Rattle.stream.specs.Fields.{Bytes}
-use Rattle.stream.specs.Commands.{blank}
 use Rattle.values.specs.declared.Origin.TheVariants.{HexWords}
 use Rattle.values.specs.declared.Source.{Source}
 use Rattle.values.specs.Sources.{unhex, word_bytes, raw_next, raw_from, source}

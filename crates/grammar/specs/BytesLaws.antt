@@ -1,7 +1,7 @@
 -- A word as bytes, by hex digits or an answer: the reader takes exactly the words of the table.
 use Rattle.std.specs.Prelude.{◌≡◌, Bool}
 use Rattle.std.proofs.Math.Bool.{true, false}
-use mathlib.Core.List.{List, []}
+use mathlib.Core.List.{List}
 use Prim.Native.Nat.{ℕ, ◌≤◌}
 use Rattle.std.proofs.Math.ListN.{length}
 use Rattle.ground.specs.Lists.{padded}

@@ -1,7 +1,7 @@
 -- Where a bad line is wrong: "the first column at which it stops being one" lies within the line or just past its end.
 use Rattle.std.specs.Prelude.{◌≡◌, get_or}
 use Rattle.std.proofs.Math.Bool.{true}
-use mathlib.Core.List.{List, []}
+use mathlib.Core.List.{List}
 use Prim.Native.Nat.{ℕ, ◌+◌, ◌≤◌, ◌<◌}
 use Prim.Native.Char.{code}
 use Rattle.std.proofs.Math.ListN.{length}

@@ -1,6 +1,6 @@
 -- The reader's next word and the grammar's: what stands at a place of a line.
 use Rattle.std.specs.Prelude.{◌≡◌}
-use mathlib.Core.List.{List, []}
+use mathlib.Core.List.{List}
 use Prim.Native.Nat.{ℕ, ◌+◌}
 use Rattle.std.proofs.Math.ListN.{length, drop}
 use Rattle.words.specs.declared.Expected.{Expected}

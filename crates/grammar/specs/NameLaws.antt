@@ -1,7 +1,7 @@
 -- A line's first word: the reader knows exactly the names, in small or capital letters.
 use Rattle.std.specs.Prelude.{◌≡◌, true, ℕ}
 use Rattle.std.proofs.Math.Option.{some}
-use mathlib.Core.List.{List, [], map}
+use mathlib.Core.List.{List, map}
 use Rattle.names.specs.declared.Says.{Says}
 use Rattle.names.specs.declared.Says.TheVariants.{Command, Raw, Help, Who, Quit}
 use Rattle.names.specs.declared.Start.{Start}

@@ -1,6 +1,6 @@
 -- A word as a number or a function: the reader takes exactly the words of the table.
 use Rattle.std.specs.Prelude.{◌≡◌, true}
-use mathlib.Core.List.{List, []}
+use mathlib.Core.List.{List}
 use Prim.Native.Nat.{ℕ}
 use Rattle.values.specs.declared.Value.{Value}
 

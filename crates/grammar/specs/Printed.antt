@@ -1,5 +1,5 @@
 -- What NOTARY prints is read back: its bytes as hex digits, its numbers as decimal digits.
-use Rattle.std.specs.Prelude.{◌≡◌, true, [], ℕ}
+use Rattle.std.specs.Prelude.{◌≡◌, true, ℕ}
 use Rattle.printout.specs.Digits.{decimal}
 use Rattle.values.specs.Numbers.{decimal_value}
 use Rattle.words.specs.declared.Class.TheVariants.{Digit}

@@ -9,7 +9,7 @@ use borrow.Author.Tests.{ne_eqb}
 use Rattle.state.specs.declared.Holdings.{Holdings}
 use Rattle.state.specs.declared.Seat.{Seat}
 use Rattle.state.specs.State.{Bytes, find, seat_of}
-use Rattle.table.specs.Entries.{fits, entry_of}
+use Rattle.table.specs.Entries.{entry_of}
 use Rattle.table.specs.Passwords.{sealed}
 use Rattle.table.proofs.Laws.{sealed_eight}
 use Rattle.rules.specs.World.{World, Own, own, shut_for, current, key1}

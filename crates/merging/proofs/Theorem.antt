@@ -6,7 +6,7 @@ use mathlib.Core.List.{List, [], ◌∷◌, ◌++◌, cons≢nil}
 use Rattle.ground.specs.Search.{by_test}
 use Rattle.state.specs.State.{Bytes, holders}
 use Rattle.rules.specs.World.{World, Own, own}
-use Rattle.rules.specs.Step.{Told, told, step}
+use Rattle.rules.specs.Step.{Told, step}
 use Rattle.properties.specs.Single.{Single}
 use Rattle.merging.specs.Ids.{mem, Distinct, once, different}
 use Rattle.merging.proofs.Ids.{mem-left, mem_right, mem-once}

@@ -1,5 +1,4 @@
 -- Demand 3 holds of any way to carry out what a user asks for that sees and alters his own alone; and so of `step`, the definition that the commands' contracts cite.
-use mathlib.Core.List.{[]}
 use Rattle.rules.specs.Commands.{UserCommand, by}
 use Rattle.rules.specs.Step.{told, rule, step}
 use Rattle.merging.specs.Demand3.{Step}

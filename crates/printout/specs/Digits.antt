@@ -1,5 +1,5 @@
 -- Numbers in decimal, bytes in upper-case hexadecimal.
-use Rattle.std.specs.Prelude.{◌≡◌, refl, Bool, true, false, cond, List, [], ◌∷◌, ◌++◌, ℕ, zero, suc, ◌+◌, ◌-◌, ◌*◌, ◌/◌, ◌%◌, ◌^◌, ◌≤◌, ◌<◌, ltb, length, get_or, set, take, drop}
+use Rattle.std.specs.Prelude.{◌≡◌, true, false, cond, List, [], ◌∷◌, ◌++◌, ℕ, zero, suc, ◌+◌, ◌-◌, ◌*◌, ◌/◌, ◌%◌, ◌^◌, ◌≤◌, ◌<◌, ltb, length, get_or, set, take, drop}
 use Rattle.std.proofs.Common.{sym, ap, subst, ◌∙◌, append_assoc, pow-suc, arith, lt-ltb, le-ltb, add-one, drop_of_length-le, drop-cons, drop_at, length-take-le}
 use Rattle.std.proofs.lemmas.List.{set_split}
 use Rattle.printout.specs.Page.{Page, entered, then}

@@ -1,5 +1,5 @@
 -- The page's worked example: its input, and the lines that NOTARY prints.
-use Rattle.std.specs.Prelude.{◌≡◌, refl, false, []}
+use Rattle.std.specs.Prelude.{◌≡◌, refl, false}
 use Rattle.std.proofs.Common.{ap}
 use Rattle.std.proofs.Math.Option.{none}
 use Rattle.ground.specs.Lists.{padded}

@@ -1,6 +1,6 @@
 -- "The program NOTARY reads a stream on standard input (its first 65536 bytes; the rest is ignored), has an output buffer of 32768 bytes, starts fresh with
 -- 64 free entries, all bytes FF, and prints one line per command": what it prints, as a function of its input.
-use Rattle.std.specs.Prelude.{List, ◌++◌, ℕ, ◌*◌, length, take, drop, replicate}
+use Rattle.std.specs.Prelude.{◌++◌, ◌*◌, length, take, drop, replicate}
 use Rattle.printout.specs.Page.{Page, page}
 use Rattle.state.specs.State.{Bytes, fresh}
 use Rattle.rules.specs.World.{World, over}

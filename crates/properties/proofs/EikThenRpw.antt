@@ -1,34 +1,27 @@
 -- EIK of name 1, and then RPW: users authenticate as before, and RAS and CPW are answered as before.
-use Rattle.std.specs.Prelude.{◌≡◌, Bool, not, List, [], ◌∷◌, ◌++◌, eqb, get_or, set}
+use Rattle.std.specs.Prelude.{◌≡◌, Bool, not, List, [], ◌∷◌, get_or, set}
 use Rattle.std.proofs.Math.Path.{refl, sym, ap}
-use Rattle.std.proofs.Common.{ap₂, ◌∙◌, subst, true≢false, append_assoc, arith, lit<, drop-drop, length-take-le, eqb-true}
+use Rattle.std.proofs.Common.{ap₂, ◌∙◌, subst, arith}
 use Rattle.std.proofs.Math.Bool.{true, false, cond}
 use Rattle.std.proofs.lemmas.Bool.{false≢true}
-use Rattle.std.proofs.Math.Option.{Option, none, some}
-use Prim.Native.Nat.{ℕ, zero, suc, ◌+◌, ◌*◌, ◌/◌, ◌≤◌, ◌<◌}
-use Rattle.std.proofs.Math.ListN.{length, take, drop, length-append, length-drop}
-use Rattle.std.proofs.Math.Seq.{take_at, drop_at}
+use Prim.Native.Nat.{ℕ, ◌<◌}
+use Rattle.std.proofs.Math.ListN.{length}
 use Rattle.ground.specs.Search.{by_test}
-use Rattle.ground.specs.Lists.{Below, below_take, below_drop}
-use Rattle.cipher.specs.Cipher.{Octets, enciphered, deciphered}
-use Rattle.cipher.proofs.Promise.{deciphered_octets, deciphered-enciphered, enciphered-deciphered}
-use Rattle.keys.specs.Keys.{notarized}
+use Rattle.ground.specs.Lists.{Below}
+use Rattle.cipher.specs.Cipher.{Octets}
 use Rattle.state.specs.declared.HeldInterchangeKey.{HeldInterchangeKey}
 use Rattle.state.specs.declared.Place.{Place}
 use Rattle.state.specs.State.{Bytes, past_keys, named, key_at, rekeyed, find, seat_of, shut_to}
-use Rattle.table.specs.Entries.{fits, id_of, entry_in, entry_of}
-use Rattle.table.specs.Passwords.{big, sealed, same, authentic, moved_entry, moved_in, moved}
-use Rattle.table.proofs.Laws.{moved_twelve}
-use Rattle.rules.specs.declared.Answer.TheVariants.{Refused}
+use Rattle.table.specs.Entries.{fits, entry_of}
+use Rattle.table.specs.Passwords.{big, authentic}
 use Rattle.rules.specs.World.{World, over, key1}
 use Rattle.rules.specs.Refusals.{test, first_of, of_own, out_of_turn}
-use Rattle.rules.specs.Commands.{RAS, CPW, by, EIK, RPW, tests, refusals, effect, undue, keyed}
-use Rattle.rules.specs.Step.{plain, result, number_of, step, settled}
+use Rattle.rules.specs.Commands.{RAS, CPW, by, EIK, RPW, tests, refusals, effect, keyed}
+use Rattle.rules.specs.Step.{number_of, step}
 use Rattle.properties.specs.Steps.{Performed}
-use Rattle.properties.proofs.Steps.{reply-first, settled-first, settled-done, next, fails, not_false}
+use Rattle.properties.proofs.Steps.{reply-first, settled-first, settled-done, next, fails}
 use Rattle.properties.specs.Passwords.{authenticates}
-use Rattle.properties.proofs.Passwords.{same-own, same_equal}
-use Rattle.properties.specs.Reencrypted.{Held, old1, Sight, seen, sight}
+use Rattle.properties.specs.Reencrypted.{old1, Sight, seen, sight}
 use Rattle.properties.proofs.Reencrypted.{moved_size, effected, after_is, rpw_keys, rpw_keeps}
 
 seen_alike : {f f' : Bool} {ps ps' : List Place} {k k' d d' x x' : Bool} → f ≡ f' → ps ≡ ps' → k ≡ k' → d ≡ d' → x ≡ x' → seen f ps k d x ≡ seen f' ps' k' d' x'

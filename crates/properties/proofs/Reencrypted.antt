@@ -1,9 +1,8 @@
 -- "EIK of name 1, then RPW": a user authenticates exactly if he did before. RPW applied twice is refused.
-use Rattle.std.specs.Prelude.{◌≡◌, Bool, not, List, [], ◌∷◌, ◌++◌, eqb, get_or, set}
+use Rattle.std.specs.Prelude.{◌≡◌, Bool, not, ◌++◌, eqb}
 use Rattle.std.proofs.Math.Path.{refl, sym, ap}
-use Rattle.std.proofs.Common.{ap₂, ◌∙◌, subst, true≢false, append_assoc, arith, lit<, drop-drop, length-take-le, eqb-true}
+use Rattle.std.proofs.Common.{◌∙◌, subst, true≢false, append_assoc, arith, lit<, drop-drop, length-take-le, eqb-true}
 use Rattle.std.proofs.Math.Bool.{true, false, cond}
-use Rattle.std.proofs.lemmas.Bool.{false≢true}
 use Rattle.std.proofs.Math.Option.{Option, none, some}
 use Prim.Native.Nat.{ℕ, zero, suc, ◌+◌, ◌*◌, ◌/◌, ◌≤◌, ◌<◌}
 use Rattle.std.proofs.Math.ListN.{length, take, drop, length-append, length-drop}
@@ -13,22 +12,20 @@ use Rattle.ground.specs.Lists.{Below, below_take, below_drop}
 use Rattle.cipher.specs.Cipher.{Octets, enciphered, deciphered}
 use Rattle.cipher.proofs.Promise.{deciphered_octets, deciphered-enciphered, enciphered-deciphered}
 use Rattle.keys.specs.Keys.{notarized}
-use Rattle.state.specs.declared.HeldInterchangeKey.{HeldInterchangeKey}
-use Rattle.state.specs.declared.Place.{Place}
-use Rattle.state.specs.State.{Bytes, past_keys, named, key_at, rekeyed, find, seat_of, shut_to}
+use Rattle.state.specs.State.{Bytes, key_at}
 use Rattle.table.specs.Entries.{fits, id_of, entry_in, entry_of}
 use Rattle.table.specs.Passwords.{big, sealed, same, authentic, moved_entry, moved_in, moved}
 use Rattle.table.proofs.Laws.{moved_twelve}
 use Rattle.rules.specs.declared.Answer.TheVariants.{Refused}
 use Rattle.rules.specs.World.{World, over, key1}
-use Rattle.rules.specs.Refusals.{test, first_of, of_own, out_of_turn}
-use Rattle.rules.specs.Commands.{RAS, CPW, by, EIK, RPW, tests, refusals, effect, undue, keyed}
-use Rattle.rules.specs.Step.{plain, result, number_of, step, settled}
+use Rattle.rules.specs.Refusals.{test, first_of, out_of_turn}
+use Rattle.rules.specs.Commands.{RPW, tests, undue}
+use Rattle.rules.specs.Step.{plain, result, step, settled}
 use Rattle.properties.specs.Steps.{Performed}
-use Rattle.properties.proofs.Steps.{reply-first, settled-first, settled-done, next, fails, not_false}
+use Rattle.properties.proofs.Steps.{settled-first, settled-done, next, not_false}
 use Rattle.properties.specs.Passwords.{authenticates}
 use Rattle.properties.proofs.Passwords.{same-own, same_equal}
-use Rattle.properties.specs.Reencrypted.{Held, old1, Sight, seen, sight}
+use Rattle.properties.specs.Reencrypted.{Held, old1}
 
 -- ---- the same bytes
 

@@ -1,7 +1,7 @@
 -- The password table after an entry was altered: what each identifier's entry then is.
 use Rattle.std.proofs.Math.Path.{◌≡◌, refl, sym, ap, subst}
 use Rattle.std.proofs.Common.{◌∙◌, true≢false, append_assoc, arith, take_at, drop_at, length-take-le, take-take, take-add}
-use Rattle.std.specs.Prelude.{Bool, not, [], ◌++◌, take}
+use Rattle.std.specs.Prelude.{Bool, not, ◌++◌, take}
 use Rattle.std.proofs.Math.Bool.{true, false, cond}
 use Rattle.std.proofs.lemmas.Bool.{false≢true}
 use Rattle.std.proofs.Math.Option.{Option, none, some}

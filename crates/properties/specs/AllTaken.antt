@@ -1,6 +1,6 @@
 -- "8 all 16 places taken", as the page prints it. The definition's condition is "the issuer has no place, and all are taken" (`shut_to`): its further words
 -- never decide, since for an issuer who has a place 4 comes before 8.
-use Rattle.std.specs.Prelude.{Bool, [], eqb, length}
+use Rattle.std.specs.Prelude.{Bool, eqb, length}
 use Rattle.state.specs.State.{holders}
 use Rattle.rules.specs.World.{World}
 

@@ -1,5 +1,5 @@
 -- What a user's command leaves to the others: what they hold, the interchange keys, DUE.
-use Rattle.std.specs.Prelude.{[], ℕ}
+use Rattle.std.specs.Prelude.{ℕ}
 use Rattle.state.specs.declared.Holdings.{Holdings}
 use Rattle.state.specs.State.{give, with_places}
 use Rattle.rules.specs.World.{World, over}

@@ -1,5 +1,5 @@
 -- "The password of IPW is accepted by RAS and by CPW"; the one that CPW gives is accepted afterwards.
-use Rattle.std.specs.Prelude.{◌≡◌, Bool, false, [], ℕ, length}
+use Rattle.std.specs.Prelude.{◌≡◌, Bool, false, ℕ, length}
 use Rattle.std.proofs.Math.Bool.{true}
 use Rattle.std.proofs.Math.Option.{none, some}
 use Rattle.state.specs.declared.Holdings.{Holdings}

@@ -1,5 +1,5 @@
 -- "EIK of name 1, then RPW": a user authenticates exactly if he did before. RPW applied twice is refused.
-use Rattle.std.specs.Prelude.{Bool, List, []}
+use Rattle.std.specs.Prelude.{Bool, List}
 use Rattle.std.proofs.Math.Option.{Option, none, some}
 use Prim.Native.Nat.{ℕ}
 use Rattle.std.proofs.Math.ListN.{length}

@@ -1,5 +1,5 @@
 -- A user's command that is not refused: its conditions all fail, and its step is its effect.
-use Rattle.std.specs.Prelude.{◌≡◌, [], length}
+use Rattle.std.specs.Prelude.{◌≡◌, length}
 use Prim.Native.Nat.{ℕ}
 use Rattle.state.specs.State.{Bytes}
 use Rattle.rules.specs.World.{World, own, shut_for}

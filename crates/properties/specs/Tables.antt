@@ -1,5 +1,4 @@
 -- The password table after an entry was altered: what each identifier's entry then is.
-use Rattle.std.specs.Prelude.{[]}
 use Rattle.std.proofs.Math.Option.{Option, none, some}
 use Rattle.state.specs.State.{Bytes}
 

@@ -1,5 +1,5 @@
 -- "Where a state is handed in that has one identifier in two places, the first of them counts and the other is not altered while the first is there."
-use mathlib.Core.List.{List, [], ◌++◌}
+use mathlib.Core.List.{List, ◌++◌}
 use Rattle.state.specs.declared.Place.{Place}
 use Rattle.state.specs.State.{with_places}
 use Rattle.rules.specs.World.{World, over}

@@ -1,5 +1,5 @@
 -- A command: one word for each field, and nothing else.
-use Rattle.std.specs.Prelude.{◌≡◌, Bool, true, false, cond, List, [], ◌∷◌, ℕ, ◌+◌, ◌-◌, ◌≤◌, ◌<◌, eqb, ltb, length, get_or, drop}
+use Rattle.std.specs.Prelude.{◌≡◌, true, cond, List, [], ◌∷◌, ℕ, ◌+◌, ◌-◌, ◌≤◌, ◌<◌, eqb, ltb, length, get_or, drop}
 use Rattle.std.proofs.Common.{add-one, drop_of_length-le, drop-cons}
 use Rattle.names.specs.declared.Says.TheVariants.{Command}
 use Rattle.stream.specs.Commands.{form_of}

@@ -1,14 +1,13 @@
 -- "A header or value that runs past the input's end is 17, and reading stops": what is cut is answered 17, and nothing else is.
 use Rattle.std.specs.Prelude.{◌≡◌, Bool, true, false, cond, ◌↔◌, eqb, leb, ltb, length, get_or, drop}
 use Rattle.std.proofs.Math.Path.{refl}
-use Rattle.std.proofs.Common.{sym, ap, ◌∙◌, true≢false, arith, eq-eqb, ne_eqb, leb-true, leb-false, ltb-true, ltb-false}
-use Rattle.std.proofs.lemmas.Bool.{false≢true}
+use Rattle.std.proofs.Common.{sym, ap, ◌∙◌, arith, ne_eqb, leb-true, leb-false, ltb-true, ltb-false}
 use Rattle.std.proofs.Math.Option.{Option, none, some}
-use mathlib.Core.List.{List, [], ◌∷◌, ◌++◌, nil≢cons, head-eq_of_cons-eq, tail-eq_of_cons-eq}
-use Prim.Native.Nat.{ℕ, zero, suc, ◌+◌, ◌-◌, ◌≤◌}
+use mathlib.Core.List.{[], ◌∷◌}
+use Prim.Native.Nat.{ℕ, ◌+◌, ◌-◌, ◌≤◌}
 use Rattle.stream.specs.declared.Field.{Field}
 use Rattle.stream.specs.declared.Field.TheVariants.{Whole, Cut, End}
-use Rattle.stream.specs.Fields.{Bytes, part, length_at, field_at, within}
+use Rattle.stream.specs.Fields.{Bytes, length_at, field_at}
 use Rattle.stream.specs.Commands.{decoded}
 use Rattle.rules.specs.declared.Answer.TheVariants.{Refused}
 use Rattle.rules.specs.World.{World}
@@ -16,8 +15,8 @@ use Rattle.rules.specs.Commands.{Command}
 use Rattle.rules.specs.Step.{result, plain, number_of, step}
 use Rattle.facility.specs.Requests.{command_of, carried_out, performed}
 use Rattle.properties.proofs.Demand1.{never_17, two_digits}
-use Rattle.session.specs.Run.{answer_to, Answered, answered, ran, go_on, carry_on, ran_from, turn}
-use Rattle.readings.specs.Cut.{PastEnd, Reaches, here, behind, RunsOut, has17, Last}
+use Rattle.session.specs.Run.{answer_to, answered, ran, go_on, ran_from, turn}
+use Rattle.readings.specs.Cut.{PastEnd}
 
 -- ---- the numbers that a command is answered by
 

@@ -2,7 +2,7 @@
 use Rattle.std.specs.Prelude.{◌≡◌, refl, Bool, true, false, cond, List, [], ◌∷◌, ℕ, zero, suc, ◌-◌, ◌≤◌, eqb, leb, length, take, drop}
 use Rattle.std.proofs.Common.{sym, ap, ◌∙◌, subst, arith, length-drop, length-append, eqb-true, leb-true, le-leb}
 use Rattle.std.proofs.lemmas.Bool.{false≢true}
-use Rattle.std.proofs.Math.Option.{none, some, none-ne-some, some-injective}
+use Rattle.std.proofs.Math.Option.{some, none-ne-some, some-injective}
 use Rattle.ground.specs.Search.{by_test}
 use Rattle.ground.specs.Lists.{Below}
 use Rattle.ground.specs.Rows.{digits, digits-length}

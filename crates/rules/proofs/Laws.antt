@@ -1,7 +1,7 @@
 -- From the verdict 0 to what each condition then says.
 use mathlib.Core.Path.{◌≡◌, refl, sym, ap, ◌∙◌}
 use mathlib.Core.Bool.{Bool, true, false, cond, not, true≢false}
-use mathlib.Core.List.{List, [], ◌∷◌}
+use mathlib.Core.List.{[], ◌∷◌}
 use Prim.Native.Nat.{ℕ, ◌%◌, ◌≤◌}
 use native.Mathlib.Omega.{arith}
 use lib.Dec.{eqb}
@@ -17,7 +17,7 @@ use Rattle.rules.specs.declared.Answer.TheVariants.{Refused}
 use Rattle.rules.specs.declared.Outcome.{Outcome}
 use Rattle.rules.specs.World.{World, over, Own, own, shut_for, mine}
 use Rattle.rules.specs.Sides.{mode_side, lacks_vector}
-use Rattle.rules.specs.Refusals.{Test, on, r1, r3, r10, r12⁸, r13, test, first_of, bad_length, bad_blocks}
+use Rattle.rules.specs.Refusals.{on, r1, r3, r10, r12⁸, r13, test, first_of, bad_length, bad_blocks}
 use Rattle.rules.specs.Commands.{mode, DAUT, refusals, LAU, Command, by, EIK, IPW, RPW, logout, tests, Effect, refused, effect}
 use Rattle.rules.specs.Step.{rule, carry, plain, told, Result, result, effected, step}
 use Rattle.rules.specs.Outcomes.{left, refused_of}

@@ -5,8 +5,6 @@ use Rattle.cipher.specs.declared.keys.Vector.{Vector}
 use Rattle.cipher.specs.declared.modes.Mode.{Mode}
 use Rattle.cipher.specs.declared.modes.Mode.TheVariants.{Ecbe, Ecbd, Cbce, Cbcd, Cfbe, Cfbd}
 use Rattle.keys.specs.Keys.{notarized}
-use Rattle.state.specs.declared.HeldKey.{HeldKey}
-use Rattle.state.specs.declared.HeldVector.{HeldVector}
 use Rattle.state.specs.declared.Side.{Side}
 use Rattle.state.specs.declared.Holdings.{Holdings}
 use Rattle.state.specs.State.{Bytes, no_vector}

@@ -1,5 +1,5 @@
 -- "The desk keeps the bytes of its answers for `$n`: of the first 4096 answers, while they find room in 1048576 bytes."
-use Rattle.std.specs.Prelude.{refl, [], ℕ, suc, replicate}
+use Rattle.std.specs.Prelude.{refl, ℕ, suc, replicate}
 use Rattle.std.proofs.lemmas.List.{length-replicate}
 use Rattle.printout.specs.Page.{page}
 use Rattle.counter.specs.Kept.{books}

@@ -1,7 +1,7 @@
 -- Nothing is left out: what the desk writes finds room on its paper of 70000 letters, and a line's bytes in its piece of 65538.
-use Rattle.std.specs.Prelude.{◌≡◌, Bool, cond, List, [], ◌∷◌, ◌++◌, eqb, ltb, leb, take}
+use Rattle.std.specs.Prelude.{◌≡◌, Bool, cond, List, [], ◌∷◌, ◌++◌, eqb, ltb, leb}
 use Rattle.std.proofs.Math.Path.{refl, ap}
-use Rattle.std.proofs.Common.{◌∙◌, arith, length-append, take_all, leb-true}
+use Rattle.std.proofs.Common.{◌∙◌, arith, length-append, leb-true}
 use Rattle.std.proofs.Math.Bool.{true, false}
 use Prim.Native.Nat.{ℕ, zero, suc, ◌+◌, ◌*◌, ◌≤◌}
 use Prim.Native.Char.{code}
@@ -13,7 +13,6 @@ use Rattle.stream.specs.declared.Field.TheVariants.{Whole, Cut, End}
 use Rattle.stream.specs.Fields.{Bytes, field, part, field_at}
 use Rattle.stream.proofs.FieldLaws.{field-length}
 use Rattle.stream.specs.Grammar.{spelled}
-use Rattle.printout.specs.Page.{page, entered}
 use Rattle.printout.specs.Text.{letters}
 use Rattle.printout.specs.Digits.{hex_byte, decimal}
 use Rattle.printout.specs.Lines.{shown, line}
@@ -43,17 +42,13 @@ use Rattle.rules.specs.Step.{number_of}
 use Rattle.talk.specs.Replies.{refused, replies, meaning, words_of}
 use Rattle.talk.specs.Help.{help}
 use Rattle.talk.specs.Who.{held, user_line, place_line, place_lines, who}
-use Rattle.session.specs.Run.{Answered, answered, answer_to, line_of, go_on, carry_on, ran_from}
+use Rattle.session.specs.Run.{Answered, answer_to, line_of, go_on, carry_on, ran_from}
 use Rattle.clerk.specs.Replies.{reply}
 use Rattle.clerk.specs.Wrong.{expected_text, column, wrong_text}
 use Rattle.clerk.specs.Told.{told_for, told}
 use Rattle.clerk.specs.Heard.{wrong_before, cut_at, heard}
 use Rattle.clerk.specs.Spoken.{spoken}
-use Rattle.counter.specs.Kept.{Books}
-use Rattle.counter.specs.Service.{carried_out}
-use Rattle.counter.specs.Line.{served, heard_with, served_line}
 use Rattle.readings.specs.InTurn.{sent}
-use Rattle.sittings.proofs.Pages.{whole_there}
 use Rattle.sittings.specs.Answers.{bytes_of}
 use Rattle.sittings.proofs.ByLine.{spoken_as, unspoken, command_spoken}
 use Rattle.sittings.proofs.Outputs.{same-output, shown_short}

@@ -1,63 +1,24 @@
 -- What is written stands whole, from the start of the paper or of the piece, whatever stood there.
-use Rattle.std.specs.Prelude.{◌≡◌, Bool, cond, List, [], ◌∷◌, ◌++◌, eqb, ltb, leb, take}
-use Rattle.std.proofs.Math.Path.{refl, ap}
-use Rattle.std.proofs.Common.{◌∙◌, arith, length-append, take_all, leb-true}
-use Rattle.std.proofs.Math.Bool.{true, false}
-use Prim.Native.Nat.{ℕ, zero, suc, ◌+◌, ◌*◌, ◌≤◌}
-use Prim.Native.Char.{code}
+use Rattle.std.specs.Prelude.{◌≡◌, Bool, List, take}
+use Rattle.std.proofs.Math.Path.{ap}
+use Rattle.std.proofs.Common.{arith, take_all}
+use Prim.Native.Nat.{ℕ, ◌+◌, ◌≤◌}
 use Rattle.std.proofs.Math.ListN.{length}
-use Rattle.ground.specs.Search.{by_test}
-use Rattle.stream.specs.declared.Request.{Request}
-use Rattle.stream.specs.declared.Field.{Field}
-use Rattle.stream.specs.declared.Field.TheVariants.{Whole, Cut, End}
-use Rattle.stream.specs.Fields.{Bytes, field, part, field_at}
-use Rattle.stream.proofs.FieldLaws.{field-length}
-use Rattle.stream.specs.Grammar.{spelled}
+use Rattle.stream.specs.Fields.{Bytes}
 use Rattle.printout.specs.Page.{page, entered}
-use Rattle.printout.specs.Text.{letters}
-use Rattle.printout.specs.Digits.{hex_byte, decimal}
-use Rattle.printout.specs.Lines.{shown, line}
-use Rattle.printout.specs.Rows.{Row, beside}
-use Rattle.words.specs.declared.Expected.{Expected}
-use Rattle.words.specs.declared.Expected.TheVariants.{Name, Identifier, Interchange, Function, Block, Bytes as SomeBytes, RawBytes as InHex, FewerBytes, ClosingQuote, SpaceAfterQuote, NothingMore}
-use Rattle.names.specs.declared.Says.{Says}
-use Rattle.names.specs.declared.Says.TheVariants.{Nothing, Command, Raw, Help, Who, Quit}
-use Rattle.names.specs.Names.{names, name}
-use Rattle.values.specs.Sources.{meant}
 use Rattle.reader.specs.declared.Line.{Line}
-use Rattle.reader.specs.Line.{wrong_line}
-use Rattle.reader.specs.Reader.{read_line}
-use Rattle.grammar.specs.Lines.{Piece, plain, text, Lines}
-use Rattle.grammar.specs.Says.{InPairs, Commands, RawBytes, Reads}
-use Rattle.grammar.proofs.LetterLaws.{both}
-use Rattle.grammar.proofs.BytesLaws.{unhex-length}
-use Rattle.grammar.proofs.Exact.{fits_reads}
-use Rattle.grammar.proofs.Streamed.{line_short}
-use Rattle.grammar.proofs.Sayable.{hex-length}
-use Rattle.grammar.proofs.Room.{twenty}
-use Rattle.state.specs.declared.Holdings.{Holdings}
 use Rattle.state.specs.declared.Place.{Place}
-use Rattle.state.specs.State.{holders}
 use Rattle.rules.specs.World.{World}
-use Rattle.rules.specs.Step.{number_of}
-use Rattle.talk.specs.Replies.{refused, replies, meaning, words_of}
-use Rattle.talk.specs.Help.{help}
-use Rattle.talk.specs.Who.{held, user_line, place_line, place_lines, who}
-use Rattle.session.specs.Run.{Answered, answered, answer_to, line_of, go_on, carry_on, ran_from}
+use Rattle.session.specs.Run.{Answered}
 use Rattle.clerk.specs.Replies.{reply}
-use Rattle.clerk.specs.Wrong.{expected_text, column, wrong_text}
-use Rattle.clerk.specs.Told.{told_for, told}
-use Rattle.clerk.specs.Heard.{wrong_before, cut_at, heard}
+use Rattle.clerk.specs.Told.{told}
+use Rattle.clerk.specs.Heard.{heard}
 use Rattle.clerk.specs.Spoken.{spoken}
 use Rattle.counter.specs.Kept.{Books}
 use Rattle.counter.specs.Service.{carried_out}
 use Rattle.counter.specs.Line.{served, heard_with, served_line}
-use Rattle.readings.specs.InTurn.{sent}
 use Rattle.sittings.proofs.Pages.{whole_there}
 use Rattle.sittings.specs.Answers.{bytes_of}
-use Rattle.sittings.proofs.ByLine.{spoken_as, unspoken, command_spoken}
-use Rattle.sittings.proofs.Outputs.{same-output, shown_short}
-use Rattle.sittings.specs.Room.{Each, Kept}
 use Rattle.sittings.proofs.Room.{reply_room, told_room, spoken_room}
 
 -- ---- whole, from the start of the paper or of the piece, whatever stood there

@@ -1,5 +1,5 @@
 -- An answer shows at most the eight bytes of a reply, or as many as the output has; and the output stays as long as it is.
-use Rattle.std.specs.Prelude.{◌≡◌, [], length}
+use Rattle.std.specs.Prelude.{◌≡◌, length}
 use Prim.Native.Nat.{ℕ, ◌≤◌}
 use Rattle.stream.specs.Fields.{Bytes}
 use Rattle.rules.specs.Step.{Result}

@@ -1,13 +1,10 @@
 -- "What a facility holds", read and changed. The facility is the declared struct; an array of it is a list.
-use Rattle.std.specs.Prelude.{◌≡◌, Bool, true, false, cond, List, [], ◌∷◌, ℕ, ◌-◌, eqb, ltb, replicate, get_or, set}
+use Rattle.std.specs.Prelude.{Bool, true, false, cond, List, [], ◌∷◌, ℕ, ◌-◌, eqb, ltb, replicate, get_or, set}
 use Rattle.std.proofs.Math.Option.{Option, none, some}
-use Rattle.cipher.specs.declared.keys.DataKey.{DataKey}
-use Rattle.cipher.specs.declared.keys.Vector.{Vector}
 use Rattle.cipher.specs.declared.keys.InterchangeKey.{InterchangeKey}
 use Rattle.state.specs.declared.HeldKey.{HeldKey}
 use Rattle.state.specs.declared.HeldVector.{HeldVector}
 use Rattle.state.specs.declared.HeldInterchangeKey.{HeldInterchangeKey}
-use Rattle.state.specs.declared.Side.{Side}
 use Rattle.state.specs.declared.Holdings.{Holdings}
 use Rattle.state.specs.declared.Place.{Place}
 use Rattle.state.specs.declared.Facility.{Facility}

@@ -1,15 +1,14 @@
 -- What the loops over passwords keep.
-use mathlib.Core.Path.{◌≡◌, refl, sym, ap, ap₂, ◌∙◌}
+use mathlib.Core.Path.{◌≡◌, sym, ap, ap₂, ◌∙◌}
 use mathlib.Core.Bool.{Bool, true, false, cond}
-use mathlib.Core.List.{List, [], ◌∷◌, ◌++◌, append_assoc}
-use Prim.Native.Nat.{ℕ, zero, suc, ◌+◌, ◌-◌, ◌*◌, ◌/◌, ◌≤◌, ◌<◌}
+use mathlib.Core.List.{◌∷◌, ◌++◌, append_assoc}
+use Prim.Native.Nat.{ℕ, suc, ◌+◌, ◌-◌, ◌*◌, ◌≤◌, ◌<◌}
 use native.Mathlib.Numerals.{add-one}
 use native.Mathlib.Omega.{arith}
-use lib.Dec.{eqb}
 use lib.ListN.{length, get_or, take, drop, length-append, length-drop, take-append-drop, drop_of_length-le}
 use lib.Seq.{drop-cons, drop-drop, take-add, take_at, drop_at, length-take-le}
 use borrow.Author.Tests.{eq-eqb, ne_eqb}
-use Rattle.cipher.specs.Cipher.{enciphered, deciphered}
+use Rattle.cipher.specs.Cipher.{deciphered}
 use Rattle.cipher.proofs.Promise.{enciphered_octets}
 use Rattle.keys.specs.Keys.{notarized}
 use Rattle.state.specs.State.{Bytes}

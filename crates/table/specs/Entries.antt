@@ -1,5 +1,5 @@
 -- The password table: entries of 12 bytes, a four-byte identifier, high byte first, and eight bytes.
-use Rattle.std.specs.Prelude.{Bool, true, false, cond, List, [], ◌∷◌, ◌++◌, ℕ, zero, suc, ◌/◌, ◌%◌, eqb, leb, length, take, drop}
+use Rattle.std.specs.Prelude.{Bool, true, false, cond, ◌++◌, ℕ, zero, suc, ◌/◌, ◌%◌, eqb, leb, length, take, drop}
 use Rattle.std.proofs.Math.Option.{Option, none, some}
 use Rattle.ground.specs.Rows.{row, digits}
 use Rattle.state.specs.State.{Bytes}

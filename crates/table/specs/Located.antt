@@ -1,7 +1,7 @@
 -- From a loop that finds the number k of an entry to `entry_in` and `enter_in`, the definition's words.
-use Rattle.std.specs.Prelude.{◌≡◌, refl, Bool, true, false, cond, List, [], ◌∷◌, ◌++◌, ℕ, zero, suc, ◌+◌, ◌*◌, ◌-◌, ◌/◌, ◌≤◌, ◌<◌, eqb, length, take, drop, get_or, ◌≢◌}
-use Rattle.std.proofs.Common.{sym, ap, ap₂, ◌∙◌, true≢false, append_assoc, append-nil, not-suc-le-zero, arith, take-append-drop, length-append, add-one, eqb-true, ne_eqb, take-add, drop-drop, drop-cons, take_at, drop_at, length-take-le}
-use Rattle.std.proofs.Math.Option.{Option, none, some}
+use Rattle.std.specs.Prelude.{◌≡◌, refl, true, false, [], ◌∷◌, ◌++◌, ℕ, zero, suc, ◌+◌, ◌*◌, ◌-◌, ◌/◌, ◌≤◌, ◌<◌, eqb, length, take, drop, get_or, ◌≢◌}
+use Rattle.std.proofs.Common.{sym, ap, ap₂, ◌∙◌, append_assoc, append-nil, not-suc-le-zero, arith, take-append-drop, length-append, add-one, eqb-true, ne_eqb, take-add, drop-drop, drop-cons, take_at, drop_at, length-take-le}
+use Rattle.std.proofs.Math.Option.{none, some}
 use Rattle.std.proofs.Math.Numerals.{add-two, add-three, add-four, add_five, add_six, add_seven}
 use Rattle.ground.specs.Search.{by_test}
 use Rattle.std.proofs.lemmas.Bool.{eqb-false}

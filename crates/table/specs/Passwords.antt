@@ -1,5 +1,5 @@
 -- Passwords: how an entry keeps one, who is authenticated, and the move from an old key to the current one.
-use Rattle.std.specs.Prelude.{Bool, true, false, cond, List, [], ◌∷◌, ◌++◌, ℕ, zero, suc, ◌/◌, eqb, ltb, length, take, drop}
+use Rattle.std.specs.Prelude.{Bool, true, false, cond, [], ◌∷◌, ◌++◌, ℕ, zero, suc, ◌/◌, eqb, ltb, length, take, drop}
 use Rattle.std.proofs.Math.Option.{Option, none, some}
 use Rattle.cipher.specs.Cipher.{enciphered, deciphered}
 use Rattle.keys.specs.Keys.{notarized}

@@ -1,6 +1,6 @@
 -- Letters: which are blank, which are digits, and how many of a kind stand at the front.
-use Rattle.std.specs.Prelude.{◌≡◌, refl, Bool, true, false, cond, not, List, [], ◌∷◌, ℕ, zero, suc, ◌+◌, ◌-◌, ◌≤◌, ◌<◌, eqb, ltb, leb, length, get_or, drop}
-use Rattle.std.proofs.Common.{sym, ap, ◌∙◌, arith, add-one, length-drop, drop_of_length-le, drop-cons}
+use Rattle.std.specs.Prelude.{◌≡◌, Bool, true, false, cond, not, List, [], ◌∷◌, ℕ, zero, suc, ◌+◌, ◌≤◌, ◌<◌, eqb, leb, length, get_or, drop}
+use Rattle.std.proofs.Common.{arith, add-one, length-drop, drop_of_length-le, drop-cons}
 use Prim.Native.Char.{code}
 use Rattle.ground.specs.Search.{by_test}
 use Rattle.words.specs.declared.Class.{Class}

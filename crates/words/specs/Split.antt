@@ -2,7 +2,6 @@
 use Rattle.std.specs.Prelude.{Bool, cond, List, ℕ, ◌+◌, eqb, leb, length, get_or}
 use Prim.Native.Char.{code}
 use Rattle.words.specs.declared.Class.TheVariants.{Blank, Plain, Text}
-use Rattle.words.specs.declared.Expected.{Expected}
 use Rattle.words.specs.declared.Expected.TheVariants.{ClosingQuote, SpaceAfterQuote}
 use Rattle.words.specs.declared.Word.{Word}
 use Rattle.words.specs.declared.Word.TheVariants.{PlainWord, TextWord, Broken, NoWord}

@@ -1,5 +1,4 @@
 use Rattle.rules.proofs.Laws.{by_refusal, by_effect}
-use borrow.Author.Rules.{rules}
 use Rattle.admission.proofs.cpw.Goals as goal
 
 pub returns-then-n-ne0 : goal.returns-then-n-ne0

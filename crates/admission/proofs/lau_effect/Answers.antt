@@ -1,11 +1,10 @@
 use Rattle.rules.specs.Commands.{effect}
 use Rattle.rules.specs.Step.{effected}
-use borrow.Author.Rules.{rules}
 use Rattle.admission.proofs.lau_effect.Goals as goal
 
 pub returns : goal.returns
 unfolding effected effect
 returns c t out = simp (
-      c.done.ensures,
-      c.free_place_of.ensures,
-    )
+  c.done.ensures,
+  c.free_place_of.ensures,
+)

@@ -1,5 +1,4 @@
 use mathlib.Core.Path.{◌∙◌, ap, ap₂}
-use borrow.Author.Rules.{rules}
 use Rattle.cipher.specs.Bits.{word}
 use Rattle.cipher.specs.Cipher.{deciphered}
 use Rattle.door.proofs.door_decipher.Goals as goal

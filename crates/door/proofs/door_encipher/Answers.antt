@@ -1,5 +1,4 @@
 use mathlib.Core.Path.{◌∙◌, ap, ap₂}
-use borrow.Author.Rules.{rules}
 use Rattle.cipher.specs.Bits.{word}
 use Rattle.cipher.specs.Cipher.{enciphered}
 use Rattle.door.proofs.door_encipher.Goals as goal

@@ -3,7 +3,6 @@ use mathlib.Core.List.{List}
 use Prim.Native.Nat.{ℕ}
 use Rattle.cipher.specs.Cipher.{valued}
 use Rattle.door.specs.Door.{fixed}
-use borrow.Author.Rules.{rules}
 use Rattle.door.proofs.door_fixity.Goals as goal
 
 pub returns : goal.returns

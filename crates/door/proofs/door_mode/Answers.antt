@@ -4,7 +4,6 @@ use Prim.Native.Nat.{ℕ}
 use Rattle.cipher.specs.Cipher.{applied}
 use Rattle.door.specs.declared.Asked.{Asked}
 use Rattle.door.specs.Door.{told, moded}
-use borrow.Author.Rules.{rules}
 use Rattle.door.proofs.door_mode.Goals as goal
 
 pub returns-in_default : goal.returns-in_default

@@ -1,7 +1,6 @@
-use mathlib.Core.Path.{◌≡◌, refl, sym, ◌∙◌}
+use mathlib.Core.Path.{refl, sym, ◌∙◌}
 use Rattle.facility.specs.Requests.{rows}
 use Rattle.facility.proofs.Laws.{by_row, by_none}
-use borrow.Author.Rules.{rules}
 use Rattle.facility.proofs.perform.Goals as goal
 
 pub returns-in-1 : goal.returns-in-1

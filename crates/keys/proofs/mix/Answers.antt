@@ -2,7 +2,6 @@ use Prim.Native.Nat.{◌/◌, ◌%◌}
 use native.Mathlib.Omega.{arith}
 use lib.Bits.{xor_lt}
 use Rattle.keys.specs.Keys.{mixed}
-use borrow.Author.Rules.{rules}
 use Rattle.keys.proofs.mix.Goals as goal
 
 pub odd_byte-requires : goal.odd_byte-requires

@@ -7,9 +7,6 @@ use Rattle.keys.proofs.notarize.Goals as goal
 pub returns : goal.returns
 returns c =
     let l : length c.args.key.0 ≡ 8 = search rules in
-    
-    
-    
     rw (
       notarized_is c.args.key.0 _ _ l,
       c.mix-8.ensures,

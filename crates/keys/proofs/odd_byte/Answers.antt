@@ -1,5 +1,4 @@
 use Rattle.keys.proofs.Laws.{odd_is}
-use borrow.Author.Rules.{rules}
 use Rattle.keys.proofs.odd_byte.Goals as goal
 
 pub returns : goal.returns

@@ -1,6 +1,5 @@
 use Rattle.rules.specs.Commands.{keyed}
 use Rattle.rules.specs.Step.{effected}
-use borrow.Author.Rules.{rules}
 use Rattle.officer.proofs.eik_effect.Goals as goal
 
 pub returns : goal.returns

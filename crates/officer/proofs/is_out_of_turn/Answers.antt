@@ -1,5 +1,4 @@
 use Rattle.rules.specs.Refusals.{out_of_turn}
-use borrow.Author.Rules.{rules}
 use Rattle.officer.proofs.is_out_of_turn.Goals as goal
 
 pub returns-then-old : goal.returns-then-old

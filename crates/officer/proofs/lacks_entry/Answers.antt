@@ -1,5 +1,4 @@
 use Rattle.rules.specs.Refusals.{lacks_entry}
-use borrow.Author.Rules.{rules}
 use Rattle.officer.proofs.lacks_entry.Goals as goal
 
 pub returns-then-has_entry : goal.returns-then-has_entry

@@ -1,5 +1,4 @@
 use Rattle.rules.specs.Step.{effected}
-use borrow.Author.Rules.{rules}
 use Rattle.officer.proofs.rpw_effect.Goals as goal
 
 pub returns : goal.returns

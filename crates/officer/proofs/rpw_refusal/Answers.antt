@@ -1,5 +1,4 @@
 use Rattle.rules.specs.Commands.{tests}
-use borrow.Author.Rules.{rules}
 use Rattle.officer.proofs.rpw_refusal.Goals as goal
 
 pub returns : goal.returns

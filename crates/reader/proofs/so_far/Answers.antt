@@ -1,5 +1,4 @@
 use Rattle.reader.specs.Line.{so_far}
-use borrow.Author.Rules.{rules}
 use Rattle.reader.proofs.so_far.Goals as goal
 
 pub returns : goal.returns

@@ -1,5 +1,4 @@
 use Rattle.reader.specs.Line.{wrong_line}
-use borrow.Author.Rules.{rules}
 use Rattle.reader.proofs.wrong_line.Goals as goal
 
 pub returns : goal.returns

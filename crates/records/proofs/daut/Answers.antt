@@ -1,6 +1,5 @@
 use mathlib.Core.Path.{sym, ◌∙◌}
 use Rattle.rules.proofs.Laws.{by_refusal, by_effect}
-use borrow.Author.Rules.{rules}
 use Rattle.records.proofs.daut.Goals as goal
 
 pub returns-then-n-ne0 : goal.returns-then-n-ne0

@@ -8,7 +8,6 @@ use Rattle.rules.specs.Sides.{function_of, side_for}
 use Rattle.rules.specs.Commands.{effect, by, DAUT, gives}
 use Rattle.rules.specs.Step.{carry, told, result, effected}
 use Rattle.rules.proofs.Laws.{daut_passed}
-use borrow.Author.Rules.{rules}
 use Rattle.records.proofs.daut_effect.Goals as goal
 
 -- what DAUT does, opened apart from what refuses it

@@ -11,7 +11,6 @@ use Rattle.rules.specs.Sides.{mode_side, after_mode}
 use Rattle.rules.specs.Commands.{effect, by, mode, writes}
 use Rattle.rules.specs.Step.{carry, told, result, effected}
 use Rattle.rules.proofs.Laws.{mode_passed}
-use borrow.Author.Rules.{rules}
 use Rattle.records.proofs.mode_effect.Goals as goal
 
 -- what a mode does, opened apart from what refuses it

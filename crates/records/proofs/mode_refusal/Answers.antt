@@ -1,6 +1,5 @@
 use Rattle.rules.proofs.Laws.{mode_first}
 use Rattle.rules.specs.Commands.{tests}
-use borrow.Author.Rules.{rules}
 use Rattle.records.proofs.mode_refusal.Goals as goal
 
 pub returns : goal.returns

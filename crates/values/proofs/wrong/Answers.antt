@@ -1,5 +1,4 @@
 use Rattle.values.specs.Values.{wrong}
-use borrow.Author.Rules.{rules}
 use Rattle.values.proofs.wrong.Goals as goal
 
 pub returns : goal.returns

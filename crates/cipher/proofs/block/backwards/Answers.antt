@@ -1,6 +1,5 @@
 use mathlib.Core.Path.{◌∙◌, ap, ap₂}
 use mathlib.Core.List.{reverse}
-use borrow.Author.Rules.{rules}
 use Rattle.cipher.specs.Bits.{bytes}
 use Rattle.engine.specs.Fips46.{computed, KS, decipher}
 use Rattle.fips81.specs.Keyed.{deciphered}

@@ -1,5 +1,4 @@
 use mathlib.Core.Path.{◌∙◌, ap, ap₂}
-use borrow.Author.Rules.{rules}
 use Rattle.cipher.specs.Bits.{bytes}
 use Rattle.engine.specs.Fips46.{computed, KS, encipher}
 use Rattle.fips81.specs.Keyed.{enciphered}

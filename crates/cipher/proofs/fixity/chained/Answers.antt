@@ -1,6 +1,6 @@
 use mathlib.Core.Path.{◌≡◌, sym, ap, ◌∙◌}
 use mathlib.Core.List.{List}
-use Prim.Native.Nat.{ℕ, ◌+◌, ◌%◌, ◌-◌, ◌≤◌, ◌<◌}
+use Prim.Native.Nat.{ℕ, ◌+◌, ◌%◌, ◌≤◌, ◌<◌}
 use native.Mathlib.Omega.{arith}
 use lib.Bits.{bit_xor}
 use lib.ListN.{length, drop}
@@ -9,7 +9,7 @@ use Rattle.ground.specs.Lists.{padded}
 use Rattle.fips81.specs.declared.Turn.{Turn}
 use Rattle.cipher.specs.Bits.{word}
 use Rattle.engine.specs.Fips46.{computed}
-use Rattle.fips81.specs.Fips81.{chain, left, blocks, filled}
+use Rattle.fips81.specs.Fips81.{chain, filled}
 use Rattle.cipher.proofs.Texts.{left_step, left_end, filled-length, filled_at}
 use Rattle.cipher.proofs.fixity.chained.Goals as goal
 

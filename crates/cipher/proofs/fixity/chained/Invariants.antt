@@ -1,16 +1,8 @@
-use mathlib.Core.Path.{◌≡◌, sym, ap, ◌∙◌}
-use mathlib.Core.List.{List}
-use Prim.Native.Nat.{ℕ, ◌+◌, ◌%◌, ◌-◌, ◌≤◌, ◌<◌}
-use native.Mathlib.Omega.{arith}
-use lib.Bits.{bit_xor}
+use mathlib.Core.Path.{◌≡◌}
+use Prim.Native.Nat.{◌%◌, ◌-◌, ◌≤◌}
 use lib.ListN.{length, drop}
-use borrow.Author.Rules.{rules}
-use Rattle.ground.specs.Lists.{padded}
-use Rattle.fips81.specs.declared.Turn.{Turn}
-use Rattle.cipher.specs.Bits.{word}
 use Rattle.engine.specs.Fips46.{computed}
 use Rattle.fips81.specs.Fips81.{chain, left, blocks, filled}
-use Rattle.cipher.proofs.Texts.{left_step, left_end, filled-length, filled_at}
 use Rattle.cipher.proofs.fixity.chained.Given as goal
 
 abbrev pub invariant-loop-i : goal.invariant-loop-i

@@ -1,4 +1,3 @@
-use borrow.Author.Rules.{rules}
 use Rattle.fips81.specs.Fips81.{keys_for}
 use Rattle.cipher.specs.Cipher.{way_of, direction_of}
 use Rattle.cipher.proofs.modes.keys_for.Goals as goal

@@ -1,17 +1,12 @@
-use mathlib.Core.Path.{◌≡◌, sym, ap, ◌∙◌}
-use mathlib.Core.List.{List, ◌++◌, append-nil}
-use Prim.Native.Nat.{ℕ, ◌+◌, ◌%◌, ◌-◌, ◌≤◌}
-use native.Mathlib.Omega.{arith}
+use mathlib.Core.Path.{◌≡◌}
+use mathlib.Core.List.{List, ◌++◌}
+use Prim.Native.Nat.{ℕ, ◌%◌, ◌-◌, ◌≤◌}
 use lib.ListN.{length, take, drop}
-use borrow.Author.Rules.{rules}
-use Rattle.ground.specs.Lists.{padded}
 use Rattle.fips81.specs.declared.Turn.{Turn}
 use Rattle.cipher.specs.declared.modes.Mode.{Mode}
-use Rattle.cipher.specs.Bits.{word}
 use Rattle.engine.specs.Fips46.{computed}
 use Rattle.cipher.specs.Cipher.{way_of, direction_of}
 use Rattle.fips81.specs.Fips81.{turned, given, left, blocks, joined}
-use Rattle.cipher.proofs.Texts.{left_step, left_end, given-step, given_end, rest_step, written}
 use Rattle.cipher.proofs.modes.run.Given as goal
 
 abbrev turn : Mode → List ℕ → ℕ → ℕ → Turn

@@ -1,4 +1,3 @@
-use borrow.Author.Rules.{rules}
 use Rattle.fips81.specs.Fips81.{turned, codebook, chain, unchain}
 use Rattle.engine.specs.Fips46.{computed}
 use Rattle.cipher.specs.Cipher.{way_of, direction_of}

@@ -1,8 +1,8 @@
 use native.Mathlib.Nat.{add-zero}
 use native.Mathlib.Omega.{arith}
 use mathlib.Core.Path.{◌≡◌, sym, ap, ◌∙◌}
-use Prim.Native.Nat.{ℕ, ◌+◌, ◌≤◌, ◌<◌, ◌-◌}
-use lib.ListN.{length, drop}
+use Prim.Native.Nat.{ℕ, ◌≤◌, ◌<◌}
+use lib.ListN.{length}
 use Rattle.ground.specs.Lists.{sets-step, sets_end}
 use lib.ListN.{length-set}
 use lib.Seq.{sets}
@@ -14,10 +14,10 @@ loop-i-init c = (search rules, search rules, ap (λ (n : ℕ). sets c.args.s.now
 
 pub loop-i-preserved : goal.loop-i-preserved
 loop-i-preserved c = let h : c.loop-i.i < length c.bytes_of-b.result = search rules in (
-      search rules,
-      simp length-set c.loop-i.invariant.1,
-      sym (sets-step _ _ _ _ h) ∙ c.loop-i.invariant.2,
-    )
+  search rules,
+  simp length-set c.loop-i.invariant.1,
+  sym (sets-step _ _ _ _ h) ∙ c.loop-i.invariant.2,
+)
 
 pub returns : goal.returns
 returns c =

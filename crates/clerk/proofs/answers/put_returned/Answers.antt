@@ -1,5 +1,4 @@
 use Rattle.printout.specs.Page.{entered}
-use borrow.Author.Rules.{rules}
 use Rattle.clerk.proofs.answers.put_returned.Goals as goal
 
 pub returns-in-Done : goal.returns-in-Done

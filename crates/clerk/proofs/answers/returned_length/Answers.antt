@@ -1,4 +1,3 @@
-use borrow.Author.Rules.{rules}
 use Rattle.clerk.proofs.answers.returned_length.Goals as goal
 
 pub returns-in-Gave : goal.returns-in-Gave

@@ -1,5 +1,4 @@
 use Rattle.clerk.specs.Spoken.{by_buffer}
-use borrow.Author.Rules.{rules}
 use Rattle.clerk.proofs.bytes.put_said.Goals as goal
 
 pub returns : goal.returns

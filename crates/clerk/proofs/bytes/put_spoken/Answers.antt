@@ -1,6 +1,5 @@
 use Rattle.printout.specs.Page.{entered}
 use Rattle.clerk.specs.Spoken.{spoken}
-use borrow.Author.Rules.{rules}
 use Rattle.clerk.proofs.bytes.put_spoken.Goals as goal
 
 pub returns-in-Nothing : goal.returns-in-Nothing

@@ -1,6 +1,5 @@
 use mathlib.Core.Path.{sym}
 use Rattle.clerk.specs.Heard.{cut_at}
-use borrow.Author.Rules.{rules}
 use Rattle.clerk.proofs.heard.cut_at.Goals as goal
 
 pub returns-then-wrong_before : goal.returns-then-wrong_before

@@ -1,5 +1,4 @@
 use Rattle.clerk.specs.Heard.{heard}
-use borrow.Author.Rules.{rules}
 use Rattle.clerk.proofs.heard.hear.Goals as goal
 
 pub returns-then-longer : goal.returns-then-longer

@@ -1,5 +1,4 @@
 use Rattle.clerk.specs.Replies.{by_lines}
-use borrow.Author.Rules.{rules}
 use Rattle.clerk.proofs.replies.put_reply.Goals as goal
 
 pub returns : goal.returns

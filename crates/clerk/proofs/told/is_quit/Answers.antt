@@ -1,5 +1,4 @@
 use Rattle.clerk.specs.Told.{is_quit}
-use borrow.Author.Rules.{rules}
 use Rattle.clerk.proofs.told.is_quit.Goals as goal
 
 pub returns-in-Nothing : goal.returns-in-Nothing

@@ -1,6 +1,5 @@
 use Rattle.clerk.specs.Told.{told}
 use Rattle.printout.specs.Page.{entered}
-use borrow.Author.Rules.{rules}
 use Rattle.clerk.proofs.told.put_told.Goals as goal
 
 pub returns-in-Nothing : goal.returns-in-Nothing

@@ -1,6 +1,5 @@
 use borrow.Author.Tests.{lt-ltb, le-ltb}
 use Rattle.clerk.specs.Wrong.{column}
-use borrow.Author.Rules.{rules}
 use Rattle.clerk.proofs.wrong.column_of.Goals as goal
 
 pub returns-then-place-lt18446744073709551615 : goal.returns-then-place-lt18446744073709551615

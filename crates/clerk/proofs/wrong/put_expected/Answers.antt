@@ -1,5 +1,4 @@
 use Rattle.clerk.specs.Wrong.{expected_text, by_expected}
-use borrow.Author.Rules.{rules}
 use Rattle.clerk.proofs.wrong.put_expected.Goals as goal
 
 pub returns-in-Name : goal.returns-in-Name

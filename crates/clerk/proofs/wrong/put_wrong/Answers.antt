@@ -3,7 +3,6 @@ use Rattle.printout.specs.Digits.{decimal}
 use Rattle.printout.specs.Page.{two}
 use Rattle.talk.proofs.Laws.{counted}
 use Rattle.clerk.specs.Wrong.{expected_text, wrong_text}
-use borrow.Author.Rules.{rules}
 use Rattle.clerk.proofs.wrong.put_wrong.Goals as goal
 
 pub returns : goal.returns

@@ -1,5 +1,4 @@
 use Rattle.counter.specs.Input.{is_last}
-use borrow.Author.Rules.{rules}
 use Rattle.counter.proofs.input.is_last.Goals as goal
 
 pub returns-then-got : goal.returns-then-got

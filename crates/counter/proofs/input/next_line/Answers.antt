@@ -1,9 +1,5 @@
-use mathlib.Core.Path.{◌≡◌, refl, ◌∙◌}
-use native.Mathlib.Omega.{arith}
-use lib.ListN.{length}
-use borrow.Author.Rules.{rules}
-use Rattle.counter.specs.Input.{partly}
-use Rattle.counter.specs.Whole.{SomeLine, none_yet, one_more_lem}
+use mathlib.Core.Path.{refl, ◌∙◌}
+use Rattle.counter.specs.Whole.{none_yet, one_more_lem}
 use Rattle.counter.proofs.input.next_line.Goals as goal
 
 pub loop-turns-init : goal.loop-turns-init

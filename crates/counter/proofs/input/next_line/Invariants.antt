@@ -1,9 +1,7 @@
-use mathlib.Core.Path.{◌≡◌, refl, ◌∙◌}
-use native.Mathlib.Omega.{arith}
+use mathlib.Core.Path.{◌≡◌}
 use lib.ListN.{length}
-use borrow.Author.Rules.{rules}
 use Rattle.counter.specs.Input.{partly}
-use Rattle.counter.specs.Whole.{SomeLine, none_yet, one_more_lem}
+use Rattle.counter.specs.Whole.{SomeLine}
 use Rattle.counter.proofs.input.next_line.Given as goal
 
 abbrev pub invariant-loop-turns : goal.invariant-loop-turns

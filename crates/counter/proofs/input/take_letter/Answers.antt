@@ -1,7 +1,6 @@
 use borrow.Author.Tests.{eq-eqb, ne_eqb, lt-ltb, le-ltb}
 use Rattle.printout.specs.Page.{letter, entered}
 use Rattle.counter.specs.Input.{one_more}
-use borrow.Author.Rules.{rules}
 use Rattle.counter.proofs.input.take_letter.Goals as goal
 
 pub returns-then-letter-eq10 : goal.returns-then-letter-eq10

@@ -4,7 +4,6 @@ use native.Mathlib.Omega.{arith}
 use lib.ListN.{length}
 use Rattle.session.specs.Run.{shown_of}
 use Rattle.counter.specs.Kept.{not-kept, all_kept}
-use borrow.Author.Rules.{rules}
 use Rattle.counter.proofs.kept.keep.Goals as goal
 
 pub returns-then-kept-used : goal.returns-then-kept-used

@@ -1,6 +1,5 @@
 use borrow.Author.Tests.{le-ltb, lt-ltb}
 use Rattle.counter.specs.Kept.{end_marked}
-use borrow.Author.Rules.{rules}
 use Rattle.counter.proofs.kept.mark_end.Goals as goal
 
 pub returns-then-n-ends : goal.returns-then-n-ends

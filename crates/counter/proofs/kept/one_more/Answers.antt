@@ -1,6 +1,5 @@
 use borrow.Author.Tests.{lt-ltb, le-ltb}
 use Rattle.counter.specs.Kept.{next}
-use borrow.Author.Rules.{rules}
 use Rattle.counter.proofs.kept.one_more.Goals as goal
 
 pub returns-then-n-lt18446744073709551615 : goal.returns-then-n-lt18446744073709551615

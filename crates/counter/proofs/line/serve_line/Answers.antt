@@ -1,5 +1,4 @@
 use Rattle.counter.specs.Line.{by_parts}
-use borrow.Author.Rules.{rules}
 use Rattle.counter.proofs.line.serve_line.Goals as goal
 
 pub returns : goal.returns

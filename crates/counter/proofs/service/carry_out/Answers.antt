@@ -1,13 +1,8 @@
-use mathlib.Core.Path.{◌≡◌, refl, sym, ◌∙◌}
-use Prim.Native.Nat.{◌-◌, ◌≤◌}
+use mathlib.Core.Path.{refl, sym, ◌∙◌}
+use Prim.Native.Nat.{◌≤◌}
 use native.Mathlib.Omega.{arith}
 use lib.ListN.{length}
-use borrow.Author.Rules.{rules}
-use Rattle.printout.specs.Page.{page}
-use Rattle.rules.specs.World.{over}
-use Rattle.session.specs.Run.{ran_from}
-use Rattle.counter.specs.Kept.{books}
-use Rattle.counter.specs.Service.{with_answers, carried_out, step, further, finished}
+use Rattle.counter.specs.Service.{carried_out, step, further, finished}
 use Rattle.counter.proofs.service.carry_out.Goals as goal
 
 pub loop-at-init : goal.loop-at-init

@@ -1,13 +1,11 @@
-use mathlib.Core.Path.{◌≡◌, refl, sym, ◌∙◌}
-use Prim.Native.Nat.{◌-◌, ◌≤◌}
-use native.Mathlib.Omega.{arith}
+use mathlib.Core.Path.{◌≡◌}
+use Prim.Native.Nat.{◌-◌}
 use lib.ListN.{length}
-use borrow.Author.Rules.{rules}
 use Rattle.printout.specs.Page.{page}
 use Rattle.rules.specs.World.{over}
 use Rattle.session.specs.Run.{ran_from}
 use Rattle.counter.specs.Kept.{books}
-use Rattle.counter.specs.Service.{with_answers, carried_out, step, further, finished}
+use Rattle.counter.specs.Service.{with_answers, carried_out}
 use Rattle.counter.proofs.service.carry_out.Given as goal
 
 abbrev pub invariant-loop-at : goal.invariant-loop-at

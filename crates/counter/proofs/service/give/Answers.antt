@@ -1,6 +1,5 @@
 use Rattle.state.specs.State.{Bytes}
 use Rattle.counter.specs.Service.{by_answer}
-use borrow.Author.Rules.{rules}
 use Rattle.counter.proofs.service.give.Goals as goal
 
 pub returns : goal.returns

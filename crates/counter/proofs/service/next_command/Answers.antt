@@ -1,6 +1,5 @@
 use mathlib.Core.Path.{sym, ◌∙◌}
 use Rattle.counter.specs.Service.{by_whole, by_cut, turn_at}
-use borrow.Author.Rules.{rules}
 use Rattle.counter.proofs.service.next_command.Goals as goal
 
 pub returns-in-Whole : goal.returns-in-Whole

@@ -1,5 +1,4 @@
 use Rattle.encoder.specs.Written.{form_size}
-use borrow.Author.Rules.{rules}
 use Rattle.encoder.proofs.arguments.command_size.Goals as goal
 
 pub returns-then-form : goal.returns-then-form

@@ -1,6 +1,5 @@
 use Rattle.encoder.specs.Written.{one_size}
 use borrow.Author.Tests.{ne_eqb}
-use borrow.Author.Rules.{rules}
 use Rattle.encoder.proofs.arguments.field_size.Goals as goal
 
 pub returns-in-0 : goal.returns-in-0

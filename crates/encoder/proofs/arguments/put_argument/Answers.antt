@@ -2,7 +2,6 @@ use borrow.Author.Tests.{ne_eqb}
 use Rattle.printout.specs.Page.{entered}
 use Rattle.stream.specs.Grammar.{argument}
 use Rattle.encoder.specs.Written.{one_field}
-use borrow.Author.Rules.{rules}
 use Rattle.encoder.proofs.arguments.put_argument.Goals as goal
 
 pub returns-in-0 : goal.returns-in-0

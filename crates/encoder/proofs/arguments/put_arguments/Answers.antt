@@ -1,9 +1,9 @@
-use mathlib.Core.Path.{◌≡◌, refl, sym, ap, ◌∙◌}
-use Prim.Native.Nat.{◌+◌, ◌-◌, ◌≤◌, ◌<◌}
+use mathlib.Core.Path.{refl, sym, ap, ◌∙◌}
+use Prim.Native.Nat.{◌+◌, ◌≤◌, ◌<◌}
 use native.Mathlib.Omega.{arith}
 use lib.ListN.{length, drop}
 use borrow.Author.Rules.{rules}
-use Rattle.printout.specs.Page.{page, entered}
+use Rattle.printout.specs.Page.{entered}
 use Rattle.encoder.specs.Written.{all_fields, fields_step, fields_end}
 use Rattle.encoder.proofs.arguments.put_arguments.Goals as goal
 

@@ -1,10 +1,8 @@
-use mathlib.Core.Path.{◌≡◌, refl, sym, ap, ◌∙◌}
-use Prim.Native.Nat.{◌+◌, ◌-◌, ◌≤◌, ◌<◌}
-use native.Mathlib.Omega.{arith}
+use mathlib.Core.Path.{◌≡◌}
+use Prim.Native.Nat.{◌-◌, ◌≤◌}
 use lib.ListN.{length, drop}
-use borrow.Author.Rules.{rules}
 use Rattle.printout.specs.Page.{page, entered}
-use Rattle.encoder.specs.Written.{all_fields, fields_step, fields_end}
+use Rattle.encoder.specs.Written.{all_fields}
 use Rattle.encoder.proofs.arguments.put_arguments.Given as goal
 
 abbrev pub invariant-loop-i : goal.invariant-loop-i

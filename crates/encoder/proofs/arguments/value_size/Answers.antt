@@ -1,9 +1,9 @@
-use mathlib.Core.Path.{◌≡◌, sym, ◌∙◌}
-use Prim.Native.Nat.{◌+◌, ◌-◌, ◌*◌, ◌≤◌, ◌<◌}
+use mathlib.Core.Path.{sym, ◌∙◌}
+use Prim.Native.Nat.{◌+◌, ◌≤◌, ◌<◌}
 use native.Mathlib.Omega.{arith}
-use lib.ListN.{length, drop}
+use lib.ListN.{length}
 use borrow.Author.Rules.{rules}
-use Rattle.encoder.specs.Written.{all_sizes, sizes_step, sizes_end, size_most}
+use Rattle.encoder.specs.Written.{sizes_step, sizes_end, size_most}
 use Rattle.encoder.proofs.arguments.value_size.Goals as goal
 
 pub loop-i-init : goal.loop-i-init

@@ -1,9 +1,7 @@
-use mathlib.Core.Path.{◌≡◌, sym, ◌∙◌}
-use Prim.Native.Nat.{◌+◌, ◌-◌, ◌*◌, ◌≤◌, ◌<◌}
-use native.Mathlib.Omega.{arith}
+use mathlib.Core.Path.{◌≡◌}
+use Prim.Native.Nat.{◌+◌, ◌-◌, ◌*◌, ◌≤◌}
 use lib.ListN.{length, drop}
-use borrow.Author.Rules.{rules}
-use Rattle.encoder.specs.Written.{all_sizes, sizes_step, sizes_end, size_most}
+use Rattle.encoder.specs.Written.{all_sizes}
 use Rattle.encoder.proofs.arguments.value_size.Given as goal
 
 abbrev pub invariant-loop-i : goal.invariant-loop-i

@@ -1,5 +1,4 @@
 use Rattle.printout.specs.Page.{two}
-use borrow.Author.Rules.{rules}
 use Rattle.encoder.proofs.fields.put_field.Goals as goal
 
 pub returns : goal.returns

@@ -1,6 +1,5 @@
 use native.Mathlib.Nat.{div-one}
 use Rattle.ground.specs.Rows.{digits}
-use borrow.Author.Rules.{rules}
 use Rattle.encoder.proofs.fields.put_header.Goals as goal
 
 pub returns : goal.returns

@@ -1,8 +1,8 @@
 use Rattle.engine.specs.Bits.{permuted}
 use Rattle.engine.specs.Tables.{IP⁻¹}
-use mathlib.Core.Path.{◌≡◌, sym, ap, ◌∙◌}
-use Prim.Native.Nat.{ℕ, ◌/◌, ◌%◌, ◌^◌, ◌≤◌, ◌<◌, ◌-◌}
-use lib.ListN.{length, drop}
+use mathlib.Core.Path.{sym, ap, ◌∙◌}
+use Prim.Native.Nat.{ℕ, ◌/◌, ◌%◌, ◌^◌, ◌≤◌, ◌<◌}
+use lib.ListN.{length}
 use Rattle.engine.proofs.Loops.{rounds-step, rounds_end}
 use lib.Bits.{xor_lt}
 use Rattle.engine.specs.Fips46.{rounds, computed}

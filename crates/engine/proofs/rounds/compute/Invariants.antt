@@ -1,12 +1,7 @@
-use Rattle.engine.specs.Bits.{permuted}
-use Rattle.engine.specs.Tables.{IP⁻¹}
-use mathlib.Core.Path.{◌≡◌, sym, ap, ◌∙◌}
-use Prim.Native.Nat.{ℕ, ◌/◌, ◌%◌, ◌^◌, ◌≤◌, ◌<◌, ◌-◌}
+use mathlib.Core.Path.{◌≡◌}
+use Prim.Native.Nat.{◌^◌, ◌≤◌, ◌<◌, ◌-◌}
 use lib.ListN.{length, drop}
-use Rattle.engine.proofs.Loops.{rounds-step, rounds_end}
-use lib.Bits.{xor_lt}
-use Rattle.engine.specs.Fips46.{rounds, computed}
-use borrow.Author.Rules.{rules}
+use Rattle.engine.specs.Fips46.{rounds}
 use Rattle.engine.proofs.rounds.compute.Given as goal
 
 abbrev pub invariant-loop-i : goal.invariant-loop-i

@@ -2,7 +2,6 @@ use Prim.Native.Nat.{ℕ, ◌+◌, ◌*◌, ◌/◌, ◌%◌}
 use Rattle.ground.specs.Tests.{at_most}
 use Rattle.engine.specs.Fips46.{selected}
 use native.Mathlib.Omega.{arith}
-use borrow.Author.Rules.{rules}
 use Rattle.engine.proofs.rounds.select.Goals as goal
 
 at : ℕ → ℕ

@@ -1,10 +1,9 @@
 use Rattle.engine.proofs.Loops.{shift_small, key_step, key_end}
 use borrow.Author.Rules.{rules}
 use native.Mathlib.Omega.{arith}
-use mathlib.Core.Path.{◌≡◌, sym, ap, ◌∙◌}
-use Prim.Native.Nat.{ℕ, ◌+◌, ◌/◌, ◌%◌, ◌^◌, ◌≤◌, ◌<◌, ◌-◌}
-use lib.ListN.{length, drop, take}
-use mathlib.Core.List.{◌++◌}
+use mathlib.Core.Path.{sym, ap, ◌∙◌}
+use Prim.Native.Nat.{ℕ, ◌/◌, ◌%◌, ◌^◌, ◌≤◌, ◌<◌}
+use lib.ListN.{length}
 use Rattle.engine.specs.Fips46.{scheduled, KS}
 use Rattle.engine.specs.Tables.{shifts}
 use Rattle.engine.proofs.schedule.key_schedule.Goals as goal

@@ -1,11 +1,8 @@
-use mathlib.Core.Path.{◌≡◌, sym, ◌∙◌}
-use Prim.Native.Nat.{◌+◌, ◌^◌, ◌≤◌, ◌<◌, ◌-◌}
-use native.Mathlib.Omega.{arith}
-use lib.Dec.{lit<}
-use lib.ListN.{length, drop}
-use borrow.Author.Rules.{rules}
-use Rattle.ground.specs.Rows.{row, row_step, row_end, wider, shorter}
-use Rattle.ground.specs.Lists.{padded, padded_at, padded-length}
+use mathlib.Core.Path.{◌≡◌}
+use Prim.Native.Nat.{◌^◌, ◌≤◌, ◌<◌, ◌-◌}
+use lib.ListN.{drop}
+use Rattle.ground.specs.Rows.{row}
+use Rattle.ground.specs.Lists.{padded}
 use Rattle.engine.proofs.words.first_block.Given as goal
 
 abbrev pub invariant-loop-i : goal.invariant-loop-i

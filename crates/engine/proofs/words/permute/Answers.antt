@@ -1,13 +1,12 @@
-use mathlib.Core.List.{map}
-use mathlib.Core.Path.{◌≡◌, sym, ◌∙◌}
-use Prim.Native.Nat.{◌+◌, ◌*◌, ◌^◌, ◌≤◌, ◌<◌, ◌-◌}
+use mathlib.Core.Path.{sym, ◌∙◌}
+use Prim.Native.Nat.{◌+◌, ◌*◌, ◌^◌, ◌≤◌, ◌<◌}
 use native.Mathlib.Omega.{arith}
 use lib.Dec.{lit<}
 use borrow.Author.Rules.{rules}
-use lib.ListN.{length, drop}
-use Rattle.engine.specs.Bits.{bit, permuted}
+use lib.ListN.{length}
+use Rattle.engine.specs.Bits.{bit}
 use Rattle.ground.specs.Tests.{entry}
-use Rattle.ground.specs.Rows.{row, wider, shorter, row-map-step, row-map_end}
+use Rattle.ground.specs.Rows.{wider, shorter, row-map-step, row-map_end}
 use Rattle.engine.proofs.Permutations.{bit_lt, permuted_lt}
 use Rattle.engine.proofs.words.permute.Goals.{After-wide}
 use Rattle.engine.proofs.words.permute.Goals as goal
@@ -20,7 +19,7 @@ entry_read c =
 
 -- the bits so far, with one more
 more : (c : After-wide)
-    → 
+    →
     let start = c.args in
     c.loop-i.bits * 2 + bit start.w start.x c.wide.result < 2 ^ (c.loop-i.i + 1)
 more c = wider 2 _ c.loop-i.invariant.1 (bit_lt _ _ _)

@@ -1,14 +1,9 @@
 use mathlib.Core.List.{map}
-use mathlib.Core.Path.{◌≡◌, sym, ◌∙◌}
-use Prim.Native.Nat.{◌+◌, ◌*◌, ◌^◌, ◌≤◌, ◌<◌, ◌-◌}
-use native.Mathlib.Omega.{arith}
-use lib.Dec.{lit<}
-use borrow.Author.Rules.{rules}
+use mathlib.Core.Path.{◌≡◌}
+use Prim.Native.Nat.{◌^◌, ◌≤◌, ◌<◌, ◌-◌}
 use lib.ListN.{length, drop}
 use Rattle.engine.specs.Bits.{bit, permuted}
-use Rattle.ground.specs.Tests.{entry}
-use Rattle.ground.specs.Rows.{row, wider, shorter, row-map-step, row-map_end}
-use Rattle.engine.proofs.Permutations.{bit_lt, permuted_lt}
+use Rattle.ground.specs.Rows.{row}
 use Rattle.engine.proofs.words.permute.Given as goal
 
 -- the bits so far, and to their right those that the rest of the table names

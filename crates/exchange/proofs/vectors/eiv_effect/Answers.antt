@@ -1,6 +1,5 @@
 use Rattle.rules.specs.Commands.{effect}
 use Rattle.rules.specs.Step.{effected}
-use borrow.Author.Rules.{rules}
 use Rattle.exchange.proofs.vectors.eiv_effect.Goals as goal
 
 pub returns : goal.returns

@@ -1,5 +1,4 @@
 use Rattle.rules.specs.Commands.{tests, refusals}
-use borrow.Author.Rules.{rules}
 use Rattle.exchange.proofs.vectors.giv_refusal.Goals as goal
 
 pub returns : goal.returns

@@ -1,4 +1,4 @@
-use Rattle.std.proofs.Common.{◌-◌, ◌≤◌, rules}
+use Rattle.std.proofs.Common.{◌-◌, ◌≤◌}
 use Rattle.handed.proofs.flat.are_others_alike.Given as goal
 
 abbrev pub invariant-loop-j : goal.invariant-loop-j

@@ -2,7 +2,6 @@ use mathlib.Core.Path.{refl}
 use Rattle.printout.specs.Text.{letters}
 use Rattle.names.specs.Names.{names, name}
 use Rattle.printout.specs.Rows.{by_row, by_none}
-use borrow.Author.Rules.{rules}
 use Rattle.names.proofs.by_tag.put_name.Goals as goal
 
 pub returns-in-1 : goal.returns-in-1

@@ -1,5 +1,4 @@
 use Rattle.names.specs.Names.{user_names, record_names, officer_names, start_of, in_group, past_group}
-use borrow.Author.Rules.{rules}
 use Rattle.names.proofs.first_word.start_of.Goals as goal
 
 pub returns-then-user : goal.returns-then-user

@@ -1,6 +1,5 @@
 use mathlib.Core.Path.{sym, ◌∙◌}
 use Rattle.names.specs.Names.{skip, hit}
-use borrow.Author.Rules.{rules}
 use Rattle.names.proofs.first_word.user_start.Goals as goal
 
 pub returns-then-is_name : goal.returns-then-is_name

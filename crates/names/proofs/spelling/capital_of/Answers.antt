@@ -4,7 +4,6 @@ use mathlib.Core.Path.{◌≡◌}
 use mathlib.Core.Path.{sym, ◌∙◌}
 use borrow.Author.Tests.{le-leb}
 use Rattle.names.specs.Names.{capital}
-use borrow.Author.Rules.{rules}
 use Rattle.names.proofs.spelling.capital_of.Goals as goal
 
 pub returns-then-letter-ge32 : goal.returns-then-letter-ge32

@@ -1,6 +1,5 @@
 use borrow.Author.Tests.{lt-ltb, le-ltb}
 use Rattle.printout.specs.Digits.{hex_digit}
-use borrow.Author.Rules.{rules}
 use Rattle.printout.proofs.digits.hex_digit.Goals as goal
 
 pub returns-then-n-lt10 : goal.returns-then-n-lt10

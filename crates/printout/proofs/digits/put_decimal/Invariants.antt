@@ -1,12 +1,8 @@
-use mathlib.Core.Path.{◌≡◌, sym, ap, ◌∙◌}
-use mathlib.Core.List.{List, ◌++◌, append-nil}
-use Prim.Native.Nat.{ℕ, ◌+◌, ◌-◌, ◌%◌, ◌/◌, ◌^◌, ◌≤◌, ◌<◌}
-use native.Mathlib.Omega.{arith}
-use lib.ListN.{length, take, drop, set, length-set}
-use borrow.Author.Rules.{rules}
-use Rattle.ground.specs.Lists.{rest_all}
-use Rattle.printout.specs.Page.{page, entered}
-use Rattle.printout.specs.Digits.{decimal, room, shorter, one_before, the_first}
+use mathlib.Core.Path.{◌≡◌}
+use mathlib.Core.List.{◌++◌}
+use Prim.Native.Nat.{◌+◌, ◌^◌, ◌≤◌, ◌<◌}
+use lib.ListN.{length, drop}
+use Rattle.printout.specs.Digits.{decimal}
 use Rattle.printout.proofs.digits.put_decimal.Given as goal
 
 abbrev pub invariant-loop-n : goal.invariant-loop-n

@@ -1,9 +1,9 @@
-use mathlib.Core.Path.{◌≡◌, refl, sym, ap, ◌∙◌}
-use Prim.Native.Nat.{◌+◌, ◌-◌, ◌≤◌, ◌<◌}
+use mathlib.Core.Path.{refl, sym, ap, ◌∙◌}
+use Prim.Native.Nat.{◌+◌, ◌≤◌, ◌<◌}
 use native.Mathlib.Omega.{arith}
 use lib.ListN.{length, drop}
 use borrow.Author.Rules.{rules}
-use Rattle.printout.specs.Page.{page, entered}
+use Rattle.printout.specs.Page.{entered}
 use Rattle.printout.specs.Digits.{hex, hex-step, hex_end}
 use Rattle.printout.proofs.digits.put_hex.Goals as goal
 

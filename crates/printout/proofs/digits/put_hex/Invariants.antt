@@ -1,10 +1,8 @@
-use mathlib.Core.Path.{◌≡◌, refl, sym, ap, ◌∙◌}
-use Prim.Native.Nat.{◌+◌, ◌-◌, ◌≤◌, ◌<◌}
-use native.Mathlib.Omega.{arith}
+use mathlib.Core.Path.{◌≡◌}
+use Prim.Native.Nat.{◌-◌, ◌≤◌}
 use lib.ListN.{length, drop}
-use borrow.Author.Rules.{rules}
 use Rattle.printout.specs.Page.{page, entered}
-use Rattle.printout.specs.Digits.{hex, hex-step, hex_end}
+use Rattle.printout.specs.Digits.{hex}
 use Rattle.printout.proofs.digits.put_hex.Given as goal
 
 abbrev pub invariant-loop-i : goal.invariant-loop-i

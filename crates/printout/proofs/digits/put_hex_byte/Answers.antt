@@ -2,7 +2,6 @@ use mathlib.Core.Path.{sym}
 use mathlib.Core.List.{[], ◌∷◌}
 use Rattle.printout.specs.Page.{then}
 use Rattle.printout.specs.Digits.{hex_digit, hex_byte}
-use borrow.Author.Rules.{rules}
 use Rattle.printout.proofs.digits.put_hex_byte.Goals as goal
 
 pub returns : goal.returns

@@ -1,5 +1,4 @@
 use Rattle.printout.specs.Lines.{by_parts}
-use borrow.Author.Rules.{rules}
 use Rattle.printout.proofs.lines.put_line.Goals as goal
 
 pub returns : goal.returns

@@ -3,7 +3,6 @@ use mathlib.Core.List.{List}
 use Prim.Native.Nat.{ℕ}
 use Rattle.printout.specs.Page.{page, entered}
 use Rattle.printout.specs.Lines.{shown_none, shown_some}
-use borrow.Author.Rules.{rules}
 use Rattle.printout.proofs.lines.put_shown.Goals as goal
 
 pub returns-then-bytes-eq0 : goal.returns-then-bytes-eq0

@@ -3,7 +3,6 @@ use Prim.Native.Nat.{◌≤◌}
 use native.Mathlib.Omega.{arith}
 use lib.ListN.{length}
 use lib.Seq.{take_all, length-take-le}
-use borrow.Author.Rules.{rules}
 use Rattle.printout.proofs.page.first_of.Goals as goal
 
 pub slice_bounds-result-end : goal.slice_bounds-result-end

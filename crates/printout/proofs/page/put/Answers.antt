@@ -1,6 +1,5 @@
 use borrow.Author.Tests.{lt-ltb, le-ltb}
 use Rattle.printout.specs.Page.{letter, entered}
-use borrow.Author.Rules.{rules}
 use Rattle.printout.proofs.page.put.Goals as goal
 
 pub returns-then-at-paper : goal.returns-then-at-paper

@@ -1,9 +1,9 @@
-use mathlib.Core.Path.{◌≡◌, refl, sym, ap, ◌∙◌}
-use Prim.Native.Nat.{◌+◌, ◌-◌, ◌≤◌, ◌<◌}
+use mathlib.Core.Path.{refl, sym, ap, ◌∙◌}
+use Prim.Native.Nat.{◌+◌, ◌≤◌, ◌<◌}
 use native.Mathlib.Omega.{arith}
 use lib.ListN.{length, drop}
 use borrow.Author.Rules.{rules}
-use Rattle.printout.specs.Page.{page, entered, enter_step, enter_end}
+use Rattle.printout.specs.Page.{entered, enter_step, enter_end}
 use Rattle.printout.proofs.page.put_all.Goals as goal
 
 pub loop-i-init : goal.loop-i-init

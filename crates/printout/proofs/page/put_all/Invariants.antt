@@ -1,9 +1,7 @@
-use mathlib.Core.Path.{◌≡◌, refl, sym, ap, ◌∙◌}
-use Prim.Native.Nat.{◌+◌, ◌-◌, ◌≤◌, ◌<◌}
-use native.Mathlib.Omega.{arith}
+use mathlib.Core.Path.{◌≡◌}
+use Prim.Native.Nat.{◌-◌, ◌≤◌}
 use lib.ListN.{length, drop}
-use borrow.Author.Rules.{rules}
-use Rattle.printout.specs.Page.{page, entered, enter_step, enter_end}
+use Rattle.printout.specs.Page.{page, entered}
 use Rattle.printout.proofs.page.put_all.Given as goal
 
 abbrev pub invariant-loop-i : goal.invariant-loop-i

@@ -1,6 +1,5 @@
 use borrow.Author.Tests.{le-ltb, lt-ltb}
 use Rattle.reader.specs.Command.{after}
-use borrow.Author.Rules.{rules}
 use Rattle.reader.proofs.command.after_word.Goals as goal
 
 pub returns-in-PlainWord : goal.returns-in-PlainWord

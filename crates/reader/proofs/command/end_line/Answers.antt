@@ -1,6 +1,5 @@
 use mathlib.Core.Path.{sym}
 use Rattle.reader.specs.Command.{ended_line}
-use borrow.Author.Rules.{rules}
 use Rattle.reader.proofs.command.end_line.Goals as goal
 
 pub returns-then-r : goal.returns-then-r

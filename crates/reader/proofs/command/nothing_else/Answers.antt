@@ -1,5 +1,4 @@
 use Rattle.reader.specs.Command.{nothing_else}
-use borrow.Author.Rules.{rules}
 use Rattle.reader.proofs.command.nothing_else.Goals as goal
 
 pub returns-in-PlainWord : goal.returns-in-PlainWord

@@ -1,7 +1,6 @@
 use mathlib.Core.Path.{sym}
 use borrow.Author.Tests.{eq-eqb, ne_eqb}
 use Rattle.reader.specs.Command.{read_word}
-use borrow.Author.Rules.{rules}
 use Rattle.reader.proofs.command.read_word.Goals as goal
 
 pub returns-then-field-eq0 : goal.returns-then-field-eq0

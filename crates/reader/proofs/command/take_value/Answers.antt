@@ -1,5 +1,4 @@
 use Rattle.reader.specs.Command.{took_value}
-use borrow.Author.Rules.{rules}
 use Rattle.reader.proofs.command.take_value.Goals as goal
 
 pub returns-then-value : goal.returns-then-value

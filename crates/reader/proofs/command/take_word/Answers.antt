@@ -1,5 +1,4 @@
 use Rattle.reader.specs.Command.{took_word}
-use borrow.Author.Rules.{rules}
 use Rattle.reader.proofs.command.take_word.Goals as goal
 
 pub returns : goal.returns

@@ -1,7 +1,6 @@
 use mathlib.Core.Path.{sym}
 use borrow.Author.Tests.{eq-eqb, le-ltb, lt-ltb, ne_eqb}
 use Rattle.reader.specs.Raw.{raw_hex}
-use borrow.Author.Rules.{rules}
 use Rattle.reader.proofs.raw.raw_hex.Goals as goal
 
 pub returns-then-digits-end : goal.returns-then-digits-end

@@ -1,6 +1,5 @@
 use mathlib.Core.Path.{sym}
 use Rattle.reader.specs.Raw.{raw_line, raw_start}
-use borrow.Author.Rules.{rules}
 use Rattle.reader.proofs.raw.raw_line.Goals as goal
 
 pub returns-in-PlainWord : goal.returns-in-PlainWord

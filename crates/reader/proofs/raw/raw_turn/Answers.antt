@@ -1,6 +1,5 @@
 use mathlib.Core.Path.{sym}
 use Rattle.reader.specs.Raw.{raw_turn}
-use borrow.Author.Rules.{rules}
 use Rattle.reader.proofs.raw.raw_turn.Goals as goal
 
 pub returns-then-r : goal.returns-then-r

@@ -1,7 +1,6 @@
-use mathlib.Core.Path.{◌≡◌, refl, sym, ap, ◌∙◌}
+use mathlib.Core.Path.{◌≡◌, sym, ap, ◌∙◌}
 use Prim.Native.Nat.{◌<◌}
 use native.Mathlib.Omega.{arith}
-use borrow.Author.Rules.{rules}
 use Rattle.reader.specs.Raw.{raw_turns, turns_step, turns_end}
 use Rattle.reader.proofs.raw.raw_turns.Goals as goal
 

@@ -1,8 +1,5 @@
-use mathlib.Core.Path.{◌≡◌, refl, sym, ap, ◌∙◌}
-use Prim.Native.Nat.{◌<◌}
-use native.Mathlib.Omega.{arith}
-use borrow.Author.Rules.{rules}
-use Rattle.reader.specs.Raw.{raw_turns, turns_step, turns_end}
+use mathlib.Core.Path.{◌≡◌}
+use Rattle.reader.specs.Raw.{raw_turns}
 use Rattle.reader.proofs.raw.raw_turns.Given as goal
 
 abbrev pub invariant-loop-turns : goal.invariant-loop-turns

@@ -1,5 +1,4 @@
 use Rattle.reader.specs.Reader.{alone_line}
-use borrow.Author.Rules.{rules}
 use Rattle.reader.proofs.reader.alone.Goals as goal
 
 pub returns : goal.returns

@@ -1,6 +1,5 @@
 use Rattle.reader.specs.Reader.{read_line, first_word}
 use mathlib.Core.Path.{sym}
-use borrow.Author.Rules.{rules}
 use Rattle.reader.proofs.reader.read_line.Goals as goal
 
 pub returns-in-PlainWord : goal.returns-in-PlainWord

@@ -1,5 +1,4 @@
 use Rattle.reader.specs.Reader.{says_line}
-use borrow.Author.Rules.{rules}
 use Rattle.reader.proofs.reader.say.Goals as goal
 
 pub returns-in-Nothing : goal.returns-in-Nothing

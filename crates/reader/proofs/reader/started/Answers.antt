@@ -1,5 +1,4 @@
 use Rattle.reader.specs.Reader.{started_line}
-use borrow.Author.Rules.{rules}
 use Rattle.reader.proofs.reader.started.Goals as goal
 
 pub returns-then-start : goal.returns-then-start

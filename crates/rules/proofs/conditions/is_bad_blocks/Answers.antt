@@ -1,5 +1,4 @@
 use Rattle.rules.specs.Refusals.{bad_blocks}
-use borrow.Author.Rules.{rules}
 use Rattle.rules.proofs.conditions.is_bad_blocks.Goals as goal
 
 pub returns-then-is_bad_length : goal.returns-then-is_bad_length

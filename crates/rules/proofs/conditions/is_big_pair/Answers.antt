@@ -1,5 +1,4 @@
 use Rattle.rules.specs.Refusals.{big_pair}
-use borrow.Author.Rules.{rules}
 use Rattle.rules.proofs.conditions.is_big_pair.Goals as goal
 
 pub returns-then-is_big : goal.returns-then-is_big

@@ -1,5 +1,4 @@
 use Rattle.rules.specs.Sides.{unknown}
-use borrow.Author.Rules.{rules}
 use Rattle.rules.proofs.conditions.is_unknown.Goals as goal
 
 pub returns-in-Transmit : goal.returns-in-Transmit

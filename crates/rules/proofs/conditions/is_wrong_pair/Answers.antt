@@ -1,5 +1,4 @@
 use Rattle.rules.specs.Sides.{wrong_pair}
-use borrow.Author.Rules.{rules}
 use Rattle.rules.proofs.conditions.is_wrong_pair.Goals as goal
 
 pub returns-in-Transmit : goal.returns-in-Transmit

@@ -1,5 +1,4 @@
 use Rattle.rules.specs.Sides.{lacks_vector}
-use borrow.Author.Rules.{rules}
 use Rattle.rules.proofs.conditions.lacks_vector.Goals as goal
 
 pub returns-in-Ecbe : goal.returns-in-Ecbe

@@ -1,5 +1,4 @@
 use Rattle.rules.specs.Sides.{after_mode}
-use borrow.Author.Rules.{rules}
 use Rattle.rules.proofs.sides.after_mode.Goals as goal
 
 pub returns-in-Ecbe : goal.returns-in-Ecbe

@@ -1,5 +1,4 @@
 use Rattle.rules.specs.Sides.{mode_side}
-use borrow.Author.Rules.{rules}
 use Rattle.rules.proofs.sides.mode_side.Goals as goal
 
 pub returns-in-Ecbe : goal.returns-in-Ecbe

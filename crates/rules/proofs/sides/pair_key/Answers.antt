@@ -1,5 +1,4 @@
 use Rattle.rules.specs.Sides.{pair_key}
-use borrow.Author.Rules.{rules}
 use Rattle.rules.proofs.sides.pair_key.Goals as goal
 
 pub returns-in-Transmit : goal.returns-in-Transmit

@@ -1,5 +1,4 @@
 use Rattle.rules.specs.Sides.{side_for}
-use borrow.Author.Rules.{rules}
 use Rattle.rules.proofs.sides.side_for.Goals as goal
 
 pub returns-in-Transmit : goal.returns-in-Transmit

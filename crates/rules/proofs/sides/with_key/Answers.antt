@@ -1,5 +1,4 @@
 use Rattle.rules.specs.Sides.{with_key}
-use borrow.Author.Rules.{rules}
 use Rattle.rules.proofs.sides.with_key.Goals as goal
 
 pub returns-in-Transmit : goal.returns-in-Transmit

@@ -1,5 +1,4 @@
 use Rattle.session.specs.Run.{answer_to}
-use borrow.Author.Rules.{rules}
 use Rattle.session.proofs.run.answer_to.Goals as goal
 
 pub returns-then-reading : goal.returns-then-reading

@@ -2,7 +2,7 @@ use Rattle.std.proofs.Common.{◌≡◌, ◌<◌, ◌≤◌, ◌+◌, ℕ, lengt
 use Rattle.rules.specs.World.{World, over}
 use Rattle.printout.specs.Page.{Page, page}
 use Rattle.stream.specs.Fields.{Bytes, field_at, value_at, past_at, further}
-use Rattle.session.specs.Run.{Reached, reached, turn_of, leaves, ran_from, printed_from, printed_run, goes, turn_end}
+use Rattle.session.specs.Run.{Reached, turn_of, leaves, ran_from, printed_from, printed_run, goes, turn_end}
 use Rattle.stream.specs.declared.Field.{Field}
 use Rattle.session.specs.declared.run.Going.{Going}
 use Rattle.session.specs.declared.run.Printed.{Printed}
@@ -18,8 +18,8 @@ loop-r-init c =
       stream = ap (λ b. b.now) c.new-r.ensures.0;
       ordinal = omega (arith, ordinal);
       printed =
-        ap (λ (n : ℕ). printed_from c.begun-d.result.ordinal (page c.args.paper.now c.begun-d.result.filled) (ran_from c.args.s.now (over c.begun-d.result.state c.args.table.now) c.args.out.now n)) at
-        ∙ ap (λ (d : Going). printed_from d.ordinal (page c.args.paper.now d.filled) (ran_from c.args.s.now (over d.state c.args.table.now) c.args.out.now 0)) start;
+          ap (λ (n : ℕ). printed_from c.begun-d.result.ordinal (page c.args.paper.now c.begun-d.result.filled) (ran_from c.args.s.now (over c.begun-d.result.state c.args.table.now) c.args.out.now n)) at
+          ∙ ap (λ (d : Going). printed_from d.ordinal (page c.args.paper.now d.filled) (ran_from c.args.s.now (over d.state c.args.table.now) c.args.out.now 0)) start;
     }
 
 pub loop-r-smaller : goal.loop-r-smaller
@@ -39,21 +39,21 @@ loop-r-preserved c =
     let stream = c.loop-r.invariant.stream in
     let more : at < length s = omega (arith, c.loop-r-test.true, ap length stream) in
     let turned =
-      c.turn-d.ensures
-      ∙ ap₂ (λ (f : Field) (v : Bytes). turn_of f v w out p i)
-        (c.next.ensures ∙ ap (λ (x : Bytes). field_at x at) stream)
-        (c.value.ensures ∙ ap (λ (x : Bytes). value_at x at) stream) in
+    c.turn-d.ensures
+    ∙ ap₂ (λ (f : Field) (v : Bytes). turn_of f v w out p i)
+    (c.next.ensures ∙ ap (λ (x : Bytes). field_at x at) stream)
+    (c.value.ensures ∙ ap (λ (x : Bytes). value_at x at) stream) in
     let moved : c.past-r.result.at ≡ past_at s at = c.past-r.ensures.1 ∙ ap (λ (x : Bytes). past_at x at) stream in
     let Goes : Reached → Type 0 =
-      λ x. (x.ordinal ≤ past_at s at + 1) × (printed_from x.ordinal x.printed (ran_from s x.world x.output (past_at s at)) ≡ printed_from i p (ran_from s w out at)) in
+    λ x. (x.ordinal ≤ past_at s at + 1) × (printed_from x.ordinal x.printed (ran_from s x.world x.output (past_at s at)) ≡ printed_from i p (ran_from s w out at)) in
     let there = subst Goes (sym turned) (goes s w out at i p c.loop-r.invariant.ordinal more) in
     record {
       stream = ap (λ b. b.now) c.past-r.ensures.0 ∙ stream;
       ordinal = omega (arith, moved, there.0);
       printed =
-        ap (λ (n : ℕ). printed_from c.turn-d.result.ordinal (page c.turn-d.new.paper c.turn-d.result.filled) (ran_from s (over c.turn-d.result.state c.turn-d.new.table) c.turn-d.new.out n)) moved
-        ∙ there.1
-        ∙ c.loop-r.invariant.printed;
+          ap (λ (n : ℕ). printed_from c.turn-d.result.ordinal (page c.turn-d.new.paper c.turn-d.result.filled) (ran_from s (over c.turn-d.result.state c.turn-d.new.table) c.turn-d.new.out n)) moved
+          ∙ there.1
+          ∙ c.loop-r.invariant.printed;
     }
 
 pub returns : goal.returns

@@ -7,12 +7,12 @@ use Rattle.session.proofs.run.run.Given as goal
 -- the reader holds the stream; the ordinal does not run ahead of the place; and what is still to be printed is the rest of what was
 abbrev pub invariant-loop-r : goal.invariant-loop-r
 invariant-loop-r l =
-  record {
-    stream : l.r.src.now ≡ l.fn.s;
-    ordinal : l.d.ordinal ≤ l.r.at + 1;
-    printed : printed_from l.d.ordinal (page l.paper l.d.filled) (ran_from l.fn.s (over l.d.state l.table) l.out l.r.at)
-      ≡ printed_run l.fn.s (over l.fn.f l.fn.table) l.fn.out (page l.fn.paper 0);
-  }
+    record {
+      stream : l.r.src.now ≡ l.fn.s;
+      ordinal : l.d.ordinal ≤ l.r.at + 1;
+      printed : printed_from l.d.ordinal (page l.paper l.d.filled) (ran_from l.fn.s (over l.d.state l.table) l.out l.r.at)
+          ≡ printed_run l.fn.s (over l.fn.f l.fn.table) l.fn.out (page l.fn.paper 0);
+    }
 
 abbrev pub decreases-loop-r : goal.decreases-loop-r
 decreases-loop-r l = length l.r.src.now - l.r.at

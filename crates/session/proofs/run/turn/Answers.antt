@@ -1,4 +1,3 @@
-use borrow.Author.Rules.{rules}
 use Rattle.session.specs.Run.{by_whole, by_cut, by_end}
 use Rattle.session.proofs.run.turn.Goals as goal
 

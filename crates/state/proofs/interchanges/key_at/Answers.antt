@@ -2,7 +2,6 @@ use mathlib.Core.Path.{sym, ◌∙◌}
 use native.Mathlib.Omega.{arith}
 use Rattle.state.specs.State.{key_at}
 use Rattle.state.proofs.Located.{named_in}
-use borrow.Author.Rules.{rules}
 use Rattle.state.proofs.interchanges.key_at.Goals as goal
 
 pub overflow_sub-i : goal.overflow_sub-i

@@ -1,7 +1,6 @@
 use Prim.Native.Nat.{◌<◌}
 use native.Mathlib.Omega.{arith}
 use Rattle.state.proofs.Located.{below16, leave_found, leave_missing}
-use borrow.Author.Rules.{rules}
 use Rattle.state.proofs.places.free_place_of.Goals as goal
 
 pub offset_bounds-places-i : goal.offset_bounds-places-i

@@ -1,4 +1,3 @@
-use borrow.Author.Rules.{rules}
 use Rattle.state.proofs.places.fresh_facility.Goals as goal
 
 pub returns : goal.returns

@@ -1,6 +1,5 @@
 use Rattle.state.specs.State.{bare}
 use Rattle.state.proofs.Located.{shut_found, shut_free, shut_full}
-use borrow.Author.Rules.{rules}
 use Rattle.state.proofs.places.is_shut_to.Goals as goal
 
 pub returns-in-At : goal.returns-in-At

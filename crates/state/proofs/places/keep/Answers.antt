@@ -1,7 +1,6 @@
 use Rattle.state.proofs.Located.{below16, below16_free, give_found, give-free, give_full}
 use native.Mathlib.Omega.{arith}
 use Prim.Native.Nat.{◌<◌}
-use borrow.Author.Rules.{rules}
 use Rattle.state.proofs.places.keep.Goals as goal
 
 pub offset_bounds-places-i : goal.offset_bounds-places-i

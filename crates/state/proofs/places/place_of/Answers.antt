@@ -1,5 +1,5 @@
 -- no place before `i` is u's.
-use Prim.Native.Nat.{ℕ, ◌≤◌, ◌-◌}
+use Prim.Native.Nat.{ℕ}
 use native.Mathlib.Omega.{arith}
 use borrow.Author.Rules.{rules}
 use Rattle.state.proofs.places.place_of.Goals.{then-places-i+else-places-i-2, else-places-i}
@@ -9,7 +9,7 @@ use lib.ListN.{get_or}
 use mathlib.Core.List.{List}
 use Rattle.state.specs.declared.Place.{Place}
 use Rattle.state.specs.State.{has}
-use Rattle.state.specs.Located.{Before, spare}
+use Rattle.state.specs.Located.{spare}
 use Rattle.state.proofs.Located.{more, has_yes, has-free, has_other}
 use Rattle.state.proofs.places.place_of.Goals as goal
 
@@ -25,10 +25,13 @@ returns-then-places-i-2 c = let u : ℕ = c.args.user in
 pub loop-i-preserved : goal.loop-i-preserved
 loop-i-preserved c = let u : ℕ = c.args.user in
     let ps : List Place = c.args.places in
-    let i : ℕ = c.loop-i.i in
-    (omega arith, more (has u) ps i c.loop-i.invariant.1 (elim c.if-places-i.branch [
-      then-places-i+else-places-i-2 w ↦ has_other u (get_or ps i spare) w.if-places-i-2.false
-      | else-places-i w ↦ has-free u (get_or ps i spare) w.if-places-i.false ]))
+    let i : ℕ = c.loop-i.i in (
+      omega arith,
+      more (has u) ps i c.loop-i.invariant.1 (elim c.if-places-i.branch [
+        | then-places-i+else-places-i-2 w ↦ has_other u (get_or ps i spare) w.if-places-i-2.false
+        | else-places-i w ↦ has-free u (get_or ps i spare) w.if-places-i.false
+      ]),
+    )
 
 pub returns : goal.returns
 returns c = (search rules, λ j h. c.loop-i.invariant.1 j (omega arith))

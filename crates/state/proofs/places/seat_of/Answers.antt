@@ -2,7 +2,6 @@ use Rattle.state.specs.State.{seat_of}
 use Rattle.state.proofs.Located.{below16, find_found, find_missing}
 use native.Mathlib.Omega.{arith}
 use Prim.Native.Nat.{◌<◌}
-use borrow.Author.Rules.{rules}
 use Rattle.state.proofs.places.seat_of.Goals as goal
 
 pub offset_bounds-places-i : goal.offset_bounds-places-i

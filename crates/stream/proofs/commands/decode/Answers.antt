@@ -1,7 +1,7 @@
 use mathlib.Core.Path.{◌≡◌, refl, sym, ap, ◌∙◌}
 use mathlib.Core.Bool.{Bool, false, cond}
 use mathlib.Core.List.{List}
-use Prim.Native.Nat.{ℕ, ◌-◌, ◌≤◌, ◌<◌}
+use Prim.Native.Nat.{ℕ, ◌≤◌, ◌<◌}
 use native.Mathlib.Omega.{arith}
 use lib.ListN.{length, drop}
 use borrow.Author.Rules.{rules}
@@ -22,10 +22,10 @@ loop-i-init c = (search rules, search rules, refl)
 
 pub loop-i-preserved : goal.loop-i-preserved
 loop-i-preserved c = let h : c.loop-i.i < length c.form_of-form.result.arguments = omega (arith, c.loop-i.invariant.0) in (
-      c.loop-i.invariant.0,
-      omega arith,
-      rw c.read_one-r.ensures (sym (read_step _ _ _ _ h) ∙ c.loop-i.invariant.2),
-    )
+  c.loop-i.invariant.0,
+  omega arith,
+  rw c.read_one-r.ensures (sym (read_step _ _ _ _ h) ∙ c.loop-i.invariant.2),
+)
 
 pub returns-then-r-value : goal.returns-then-r-value
 unfolding decoded ended

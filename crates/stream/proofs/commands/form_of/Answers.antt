@@ -1,7 +1,6 @@
 use Rattle.stream.specs.Commands.{form_of, arguments_of}
 use Rattle.ground.specs.Lists.{padded}
 use borrow.Author.Tests.{ne_eqb}
-use borrow.Author.Rules.{rules}
 use Rattle.stream.proofs.commands.form_of.Goals as goal
 
 pub returns-in-1 : goal.returns-in-1

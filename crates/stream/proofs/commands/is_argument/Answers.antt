@@ -1,6 +1,5 @@
 use borrow.Author.Tests.{eq-eqb, ne_eqb}
 use Rattle.stream.specs.Commands.{is_argument}
-use borrow.Author.Rules.{rules}
 use Rattle.stream.proofs.commands.is_argument.Goals as goal
 
 pub returns-then-found-wanted : goal.returns-then-found-wanted

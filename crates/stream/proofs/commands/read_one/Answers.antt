@@ -1,6 +1,5 @@
 use borrow.Author.Tests.{eq-eqb, ne_eqb}
 use Rattle.stream.specs.Commands.{read_one}
-use borrow.Author.Rules.{rules}
 use Rattle.stream.proofs.commands.read_one.Goals as goal
 
 pub returns-then-wanted-eq0 : goal.returns-then-wanted-eq0

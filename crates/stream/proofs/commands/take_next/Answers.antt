@@ -2,7 +2,6 @@ use mathlib.Core.Path.{sym, ap, ◌∙◌}
 use borrow.Author.Tests.{eq-eqb, ne_eqb}
 use Rattle.stream.specs.Fields.{within, part_length}
 use Rattle.stream.specs.Commands.{has_size, argument_is, took}
-use borrow.Author.Rules.{rules}
 use Rattle.stream.proofs.commands.take_next.Goals as goal
 
 pub overflow_sub-end : goal.overflow_sub-end

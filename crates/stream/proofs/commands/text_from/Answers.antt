@@ -3,7 +3,6 @@ use Prim.Native.Nat.{◌≤◌}
 use lib.ListN.{length, drop_of_length-le}
 use native.Mathlib.Omega.{arith}
 use Rattle.ground.specs.Lists.{rest_all}
-use borrow.Author.Rules.{rules}
 use Rattle.stream.proofs.commands.text_from.Goals as goal
 
 pub returns-then-start-value : goal.returns-then-start-value

@@ -1,6 +1,5 @@
 use borrow.Author.Tests.{le-ltb, lt-ltb, le-leb, lt-leb}
 use Rattle.stream.specs.Fields.{field_at, length_at}
-use borrow.Author.Rules.{rules}
 use Rattle.stream.proofs.fields.field_at.Goals as goal
 
 pub returns-then-s-at : goal.returns-then-s-at

@@ -1,10 +1,10 @@
-use mathlib.Core.Path.{◌≡◌, sym, ◌∙◌}
-use Prim.Native.Nat.{◌+◌, ◌-◌, ◌^◌, ◌≤◌, ◌<◌}
+use mathlib.Core.Path.{sym, ◌∙◌}
+use Prim.Native.Nat.{◌+◌, ◌≤◌, ◌<◌}
 use native.Mathlib.Omega.{arith}
 use lib.Dec.{lit<}
-use lib.ListN.{length, drop}
+use lib.ListN.{length}
 use borrow.Author.Rules.{rules}
-use Rattle.ground.specs.Rows.{row, row_step, row_end, wider, shorter}
+use Rattle.ground.specs.Rows.{row_step, row_end, wider, shorter}
 use Rattle.stream.proofs.fields.number.Goals as goal
 
 pub overflow_mul-x : goal.overflow_mul-x

@@ -1,10 +1,7 @@
-use mathlib.Core.Path.{◌≡◌, sym, ◌∙◌}
-use Prim.Native.Nat.{◌+◌, ◌-◌, ◌^◌, ◌≤◌, ◌<◌}
-use native.Mathlib.Omega.{arith}
-use lib.Dec.{lit<}
+use mathlib.Core.Path.{◌≡◌}
+use Prim.Native.Nat.{◌-◌, ◌^◌, ◌≤◌, ◌<◌}
 use lib.ListN.{length, drop}
-use borrow.Author.Rules.{rules}
-use Rattle.ground.specs.Rows.{row, row_step, row_end, wider, shorter}
+use Rattle.ground.specs.Rows.{row}
 use Rattle.stream.proofs.fields.number.Given as goal
 
 abbrev pub invariant-loop-i : goal.invariant-loop-i

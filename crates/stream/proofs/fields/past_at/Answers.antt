@@ -1,4 +1,3 @@
-use borrow.Author.Rules.{rules}
 use Rattle.stream.specs.Fields.{past_at}
 use Rattle.stream.proofs.fields.past_at.Goals as goal
 

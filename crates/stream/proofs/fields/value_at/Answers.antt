@@ -1,6 +1,5 @@
 use Rattle.stream.specs.Fields.{value_at, within}
 use mathlib.Core.Path.{sym, ◌∙◌}
-use borrow.Author.Rules.{rules}
 use Rattle.stream.proofs.fields.value_at.Goals as goal
 
 pub slice_bounds-result-count : goal.slice_bounds-result-count

@@ -1,5 +1,4 @@
 use Rattle.table.specs.Entries.{enrolled}
-use borrow.Author.Rules.{rules}
 use Rattle.table.proofs.entries.enrol.Goals as goal
 
 pub returns-then-has_entry : goal.returns-then-has_entry

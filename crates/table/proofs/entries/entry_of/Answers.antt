@@ -1,11 +1,9 @@
-use mathlib.Core.Path.{◌≡◌, refl, sym, ◌∙◌}
-use Prim.Native.Nat.{◌≤◌, ◌-◌, ◌/◌}
+use mathlib.Core.Path.{refl, sym, ◌∙◌}
 use native.Mathlib.Nat.{not-suc-le-zero}
 use native.Mathlib.Omega.{arith}
-use lib.ListN.{length}
 use borrow.Author.Rules.{rules}
 use borrow.Author.Tests.{eq-eqb}
-use Rattle.table.specs.Located.{NotBefore, more}
+use Rattle.table.specs.Located.{more}
 use Rattle.table.proofs.entries.entry_of.Goals as goal
 
 pub loop-k-init : goal.loop-k-init

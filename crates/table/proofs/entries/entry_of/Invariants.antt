@@ -1,11 +1,7 @@
-use mathlib.Core.Path.{◌≡◌, refl, sym, ◌∙◌}
+use mathlib.Core.Path.{◌≡◌}
 use Prim.Native.Nat.{◌≤◌, ◌-◌, ◌/◌}
-use native.Mathlib.Nat.{not-suc-le-zero}
-use native.Mathlib.Omega.{arith}
 use lib.ListN.{length}
-use borrow.Author.Rules.{rules}
-use borrow.Author.Tests.{eq-eqb}
-use Rattle.table.specs.Located.{NotBefore, more}
+use Rattle.table.specs.Located.{NotBefore}
 use Rattle.table.proofs.entries.entry_of.Given as goal
 
 abbrev pub invariant-loop-k : goal.invariant-loop-k

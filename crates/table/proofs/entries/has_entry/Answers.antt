@@ -1,5 +1,4 @@
 use Rattle.table.specs.Located.{entry_found, entry_missing}
-use borrow.Author.Rules.{rules}
 use Rattle.table.proofs.entries.has_entry.Goals as goal
 
 pub returns-in-At : goal.returns-in-At

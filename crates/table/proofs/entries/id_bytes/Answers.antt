@@ -1,6 +1,5 @@
 use native.Mathlib.Nat.{div-one}
 use Rattle.ground.specs.Rows.{digits}
-use borrow.Author.Rules.{rules}
 use Rattle.table.proofs.entries.id_bytes.Goals as goal
 
 pub returns : goal.returns

@@ -1,7 +1,6 @@
 use Rattle.table.specs.Passwords.{authentic}
 use Rattle.table.specs.Located.{entry_inside, entry_found, entry_missing}
 use native.Mathlib.Omega.{arith}
-use borrow.Author.Rules.{rules}
 use Rattle.table.proofs.passwords.is_authentic.Goals as goal
 
 pub overflow_mul-k : goal.overflow_mul-k

@@ -1,8 +1,7 @@
-use mathlib.Core.Path.{◌≡◌, sym, ◌∙◌}
-use Prim.Native.Nat.{◌≤◌, ◌<◌, ◌-◌}
-use lib.ListN.{length, drop}
+use mathlib.Core.Path.{sym, ◌∙◌}
+use Prim.Native.Nat.{◌≤◌, ◌<◌}
+use lib.ListN.{length}
 use borrow.Author.Rules.{rules}
-use Rattle.table.specs.Passwords.{same}
 use Rattle.table.proofs.Laws.{same_step, same_differ, same_end}
 use Rattle.table.proofs.passwords.is_same.Goals as goal
 

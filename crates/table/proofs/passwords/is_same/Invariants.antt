@@ -1,9 +1,7 @@
-use mathlib.Core.Path.{◌≡◌, sym, ◌∙◌}
-use Prim.Native.Nat.{◌≤◌, ◌<◌, ◌-◌}
-use lib.ListN.{length, drop}
-use borrow.Author.Rules.{rules}
+use mathlib.Core.Path.{◌≡◌}
+use Prim.Native.Nat.{◌≤◌, ◌-◌}
+use lib.ListN.{drop}
 use Rattle.table.specs.Passwords.{same}
-use Rattle.table.proofs.Laws.{same_step, same_differ, same_end}
 use Rattle.table.proofs.passwords.is_same.Given as goal
 
 abbrev pub invariant-loop-i : goal.invariant-loop-i

@@ -1,12 +1,8 @@
-use native.Mathlib.Nat.{sub-zero}
-use mathlib.Core.Path.{◌≡◌, refl, sym, ◌∙◌}
+use mathlib.Core.Path.{◌≡◌}
 use mathlib.Core.List.{◌++◌}
-use Prim.Native.Nat.{◌+◌, ◌-◌, ◌*◌, ◌/◌, ◌≤◌, ◌<◌}
-use native.Mathlib.Omega.{arith}
+use Prim.Native.Nat.{◌-◌, ◌*◌, ◌/◌, ◌≤◌}
 use lib.ListN.{length, take, drop}
-use borrow.Author.Rules.{rules}
-use Rattle.table.specs.Passwords.{moved_in, moved}
-use Rattle.table.proofs.Laws.{move_step, move_end}
+use Rattle.table.specs.Passwords.{moved_in}
 use Rattle.table.proofs.passwords.move_all.Given as goal
 
 abbrev pub invariant-loop-k : goal.invariant-loop-k

@@ -1,5 +1,4 @@
 use Rattle.table.specs.Passwords.{sealed}
-use borrow.Author.Rules.{rules}
 use Rattle.table.proofs.passwords.seal_password.Goals as goal
 
 pub returns : goal.returns

@@ -1,5 +1,4 @@
 use Rattle.talk.specs.Help.{help}
-use borrow.Author.Rules.{rules}
 use Rattle.talk.proofs.help.put_help.Goals as goal
 
 pub returns : goal.returns

@@ -2,7 +2,6 @@ use mathlib.Core.Path.{refl}
 use Rattle.printout.specs.Text.{letters}
 use Rattle.talk.specs.Replies.{refused, replies, meaning}
 use Rattle.printout.specs.Rows.{by_row, by_none}
-use borrow.Author.Rules.{rules}
 use Rattle.talk.proofs.replies.put_meaning.Goals as goal
 
 pub returns-in-0 : goal.returns-in-0

@@ -1,7 +1,6 @@
 use Rattle.printout.specs.Text.{letters}
 use Rattle.talk.specs.Replies.{refused}
 use Rattle.printout.specs.Page.{two}
-use borrow.Author.Rules.{rules}
 use Rattle.talk.proofs.replies.put_refused.Goals as goal
 
 pub returns : goal.returns

@@ -4,7 +4,6 @@ use Rattle.printout.specs.Text.{letters}
 use Rattle.names.specs.Names.{name}
 use Rattle.talk.specs.Replies.{meaning, words_of}
 use Rattle.printout.specs.Page.{two}
-use borrow.Author.Rules.{rules}
 use Rattle.talk.proofs.replies.put_words.Goals as goal
 
 pub returns : goal.returns

@@ -1,11 +1,10 @@
 use mathlib.Core.Path.{◌≡◌}
 use mathlib.Core.List.{List}
-use Prim.Native.Nat.{ℕ, ◌+◌, ◌-◌, ◌≤◌, ◌<◌}
+use Prim.Native.Nat.{ℕ, ◌+◌, ◌≤◌, ◌<◌}
 use native.Mathlib.Omega.{arith}
 use lib.Dec.{lit≤}
-use lib.ListN.{length, drop}
+use lib.ListN.{length}
 use Rattle.state.specs.declared.Place.{Place}
-use Rattle.state.specs.State.{holders}
 use Rattle.talk.proofs.Laws.{taken_step, free_step, taken_end}
 use borrow.Author.Rules.{rules}
 use Rattle.talk.proofs.who.active_users.Goals.{then-places-i, else-places-i}
@@ -21,12 +20,13 @@ loop-i-preserved c = let ps : List Place = c.args.places in
     let inv = c.loop-i.invariant in
     let h : i < length ps = omega (arith, inv.0) in
     elim c.if-places-i.branch [
-      then-places-i w ↦
-        let e : c.if-places-i.n ≡ n + 1 = w.n-is in
-        (inv.0, omega arith, omega (arith, e), omega (arith, e, taken_step ps i h w.if-places-i.true, inv.3))
+      | then-places-i w ↦
+          let e : c.if-places-i.n ≡ n + 1 = w.n-is in
+          (inv.0, omega arith, omega (arith, e), omega (arith, e, taken_step ps i h w.if-places-i.true, inv.3))
       | else-places-i w ↦
-        let e : c.if-places-i.n ≡ n = w.n-is in
-        (inv.0, omega arith, omega (arith, e), omega (arith, e, free_step ps i h w.if-places-i.false, inv.3)) ]
+          let e : c.if-places-i.n ≡ n = w.n-is in
+          (inv.0, omega arith, omega (arith, e), omega (arith, e, free_step ps i h w.if-places-i.false, inv.3))
+    ]
 
 pub returns : goal.returns
 returns c = let ps : List Place = c.args.places in

@@ -1,14 +1,7 @@
 use mathlib.Core.Path.{◌≡◌}
-use mathlib.Core.Logic.{⊎_elim}
-use mathlib.Core.List.{List}
-use Prim.Native.Nat.{ℕ, ◌+◌, ◌-◌, ◌≤◌, ◌<◌}
-use native.Mathlib.Omega.{arith}
-use lib.Dec.{lit≤}
+use Prim.Native.Nat.{◌+◌, ◌-◌, ◌≤◌}
 use lib.ListN.{length, drop}
-use Rattle.state.specs.declared.Place.{Place}
 use Rattle.state.specs.State.{holders}
-use Rattle.talk.proofs.Laws.{taken_step, free_step, taken_end}
-use borrow.Author.Rules.{rules}
 use Rattle.talk.proofs.who.active_users.Given as goal
 
 abbrev pub invariant-loop-i : goal.invariant-loop-i

@@ -1,7 +1,6 @@
 use Rattle.printout.specs.Text.{letters}
 use Rattle.talk.specs.Who.{held}
 use Rattle.printout.specs.Page.{two}
-use borrow.Author.Rules.{rules}
 use Rattle.talk.proofs.who.put_held.Goals as goal
 
 pub returns-then-present : goal.returns-then-present

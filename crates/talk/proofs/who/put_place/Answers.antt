@@ -2,7 +2,6 @@ use mathlib.Core.Path.{◌≡◌}
 use mathlib.Core.Bool.{true, false}
 use Rattle.printout.specs.Page.{entered}
 use Rattle.talk.specs.Who.{place_line}
-use borrow.Author.Rules.{rules}
 use Rattle.talk.proofs.who.put_place.Goals as goal
 
 pub returns-then-p : goal.returns-then-p

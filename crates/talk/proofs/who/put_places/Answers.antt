@@ -1,8 +1,8 @@
-use mathlib.Core.Path.{◌≡◌, refl, sym, ap, ◌∙◌}
-use Prim.Native.Nat.{◌+◌, ◌-◌, ◌≤◌, ◌<◌}
+use mathlib.Core.Path.{refl, sym, ap, ◌∙◌}
+use Prim.Native.Nat.{◌+◌, ◌≤◌, ◌<◌}
 use native.Mathlib.Omega.{arith}
 use lib.ListN.{length, drop}
-use Rattle.printout.specs.Page.{page, entered}
+use Rattle.printout.specs.Page.{entered}
 use Rattle.talk.specs.Who.{place_lines}
 use Rattle.talk.proofs.Laws.{lines_step, lines_end}
 use borrow.Author.Rules.{rules}

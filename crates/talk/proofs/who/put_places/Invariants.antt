@@ -1,11 +1,8 @@
-use mathlib.Core.Path.{◌≡◌, refl, sym, ap, ◌∙◌}
-use Prim.Native.Nat.{◌+◌, ◌-◌, ◌≤◌, ◌<◌}
-use native.Mathlib.Omega.{arith}
+use mathlib.Core.Path.{◌≡◌}
+use Prim.Native.Nat.{◌-◌, ◌≤◌}
 use lib.ListN.{length, drop}
 use Rattle.printout.specs.Page.{page, entered}
 use Rattle.talk.specs.Who.{place_lines}
-use Rattle.talk.proofs.Laws.{lines_step, lines_end}
-use borrow.Author.Rules.{rules}
 use Rattle.talk.proofs.who.put_places.Given as goal
 
 abbrev pub invariant-loop-i : goal.invariant-loop-i

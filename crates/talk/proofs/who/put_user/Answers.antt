@@ -2,7 +2,6 @@ use Rattle.printout.specs.Text.{letters}
 use Rattle.printout.specs.Digits.{decimal}
 use Rattle.talk.specs.Who.{held, user_line}
 use Rattle.printout.specs.Page.{two}
-use borrow.Author.Rules.{rules}
 use Rattle.talk.proofs.who.put_user.Goals as goal
 
 pub returns : goal.returns

@@ -3,7 +3,6 @@ use Rattle.printout.specs.Digits.{decimal}
 use Rattle.talk.specs.Who.{who}
 use Rattle.printout.specs.Page.{two}
 use Rattle.talk.proofs.Laws.{counted}
-use borrow.Author.Rules.{rules}
 use Rattle.talk.proofs.who.put_who.Goals as goal
 
 pub returns : goal.returns

@@ -1,7 +1,6 @@
 use mathlib.Core.Path.{sym}
 use borrow.Author.Tests.{eq-eqb, ne_eqb}
 use Rattle.values.specs.Values.{answer_block}
-use borrow.Author.Rules.{rules}
 use Rattle.values.proofs.answers.answer_block.Goals as goal
 
 pub returns-then-span-eq8 : goal.returns-then-span-eq8

@@ -1,7 +1,6 @@
 use mathlib.Core.Path.{sym}
 use borrow.Author.Tests.{le-ltb, lt-ltb}
 use Rattle.values.specs.Values.{answer_data}
-use borrow.Author.Rules.{rules}
 use Rattle.values.proofs.answers.answer_data.Goals as goal
 
 pub returns-then-from : goal.returns-then-from

@@ -1,4 +1,3 @@
-use borrow.Author.Rules.{rules}
 use Rattle.values.proofs.answers.answer_for.Goals as goal
 
 pub returns-then-eight : goal.returns-then-eight

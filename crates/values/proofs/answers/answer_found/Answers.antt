@@ -1,6 +1,5 @@
 use mathlib.Core.Path.{sym}
 use Rattle.values.specs.Values.{answer_found}
-use borrow.Author.Rules.{rules}
 use Rattle.values.proofs.answers.answer_found.Goals as goal
 
 pub returns-then-read : goal.returns-then-read

@@ -1,6 +1,5 @@
 use borrow.Author.Tests.{eq-eqb, le-leb, le-ltb, lt-leb, lt-ltb, ne_eqb}
 use Rattle.values.specs.Sources.{answer_source}
-use borrow.Author.Rules.{rules}
 use Rattle.values.proofs.answers.answer_source.Goals as goal
 
 pub returns-then-n-eq0 : goal.returns-then-n-eq0

@@ -1,7 +1,6 @@
 use mathlib.Core.Path.{sym}
 use borrow.Author.Tests.{le-leb, le-ltb, lt-leb, lt-ltb}
 use Rattle.values.specs.Values.{answer_value}
-use borrow.Author.Rules.{rules}
 use Rattle.values.proofs.answers.answer_value.Goals as goal
 
 pub returns-then-digits-end : goal.returns-then-digits-end

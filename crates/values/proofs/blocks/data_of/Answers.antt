@@ -1,6 +1,5 @@
 use borrow.Author.Tests.{le-leb, lt-leb}
 use Rattle.values.specs.Values.{data_of}
-use borrow.Author.Rules.{rules}
 use Rattle.values.proofs.blocks.data_of.Goals as goal
 
 pub returns-then-n-le65500 : goal.returns-then-n-le65500

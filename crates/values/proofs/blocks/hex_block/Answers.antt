@@ -1,7 +1,6 @@
 use mathlib.Core.Path.{sym}
 use borrow.Author.Tests.{eq-eqb, le-ltb, lt-ltb, ne_eqb}
 use Rattle.values.specs.Values.{hex_block}
-use borrow.Author.Rules.{rules}
 use Rattle.values.proofs.blocks.hex_block.Goals as goal
 
 pub returns-then-span-lt16 : goal.returns-then-span-lt16

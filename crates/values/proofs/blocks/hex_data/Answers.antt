@@ -1,7 +1,6 @@
 use mathlib.Core.Path.{sym}
 use borrow.Author.Tests.{eq-eqb, le-ltb, lt-ltb, ne_eqb}
 use Rattle.values.specs.Values.{hex_data}
-use borrow.Author.Rules.{rules}
 use Rattle.values.proofs.blocks.hex_data.Goals as goal
 
 pub returns-then-digits-end : goal.returns-then-digits-end

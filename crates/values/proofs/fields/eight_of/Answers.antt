@@ -1,7 +1,6 @@
 use mathlib.Core.Path.{ap, ◌∙◌}
 use Rattle.printout.specs.Page.{Page}
 use Rattle.values.proofs.Laws.{eight_padded}
-use borrow.Author.Rules.{rules}
 use Rattle.values.proofs.fields.eight_of.Goals as goal
 
 pub returns : goal.returns

@@ -1,6 +1,5 @@
 use borrow.Author.Tests.{ne_eqb}
 use Rattle.values.specs.Fields.{plain_value}
-use borrow.Author.Rules.{rules}
 use Rattle.values.proofs.fields.plain_value.Goals as goal
 
 pub returns-in-129 : goal.returns-in-129

@@ -1,7 +1,6 @@
 use mathlib.Core.Path.{sym}
 use borrow.Author.Tests.{eq-eqb, ne_eqb}
 use Rattle.values.specs.Fields.{text_value}
-use borrow.Author.Rules.{rules}
 use Rattle.values.proofs.fields.text_value.Goals as goal
 
 pub returns-then-field-eq135 : goal.returns-then-field-eq135

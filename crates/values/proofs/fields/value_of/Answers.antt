@@ -1,6 +1,5 @@
 use mathlib.Core.Path.{sym}
 use Rattle.values.specs.Fields.{value_of}
-use borrow.Author.Rules.{rules}
 use Rattle.values.proofs.fields.value_of.Goals as goal
 
 pub returns-in-PlainWord : goal.returns-in-PlainWord

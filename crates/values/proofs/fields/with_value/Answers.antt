@@ -4,7 +4,6 @@ use Rattle.ground.specs.Rows.{row-digits}
 use Rattle.stream.specs.Commands.{filled}
 use Rattle.values.specs.Fields.{value_bytes, with_value}
 use Rattle.values.proofs.Laws.{one_byte}
-use borrow.Author.Rules.{rules}
 use Rattle.values.proofs.fields.with_value.Goals as goal
 
 pub returns-in-129 : goal.returns-in-129

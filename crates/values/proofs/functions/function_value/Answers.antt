@@ -1,7 +1,6 @@
 use mathlib.Core.Path.{sym, ◌∙◌}
 use borrow.Author.Tests.{eq-eqb, ne_eqb}
 use Rattle.values.specs.Values.{function_value}
-use borrow.Author.Rules.{rules}
 use Rattle.values.proofs.functions.function_value.Goals as goal
 
 pub returns-then-is_function : goal.returns-then-is_function

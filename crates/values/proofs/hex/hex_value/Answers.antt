@@ -3,7 +3,6 @@ use mathlib.Core.Path.{◌≡◌}
 use Prim.Native.Nat.{◌-◌, ◌%◌}
 use borrow.Author.Tests.{le-leb, le-ltb, lt-ltb}
 use Rattle.values.specs.Sources.{hex_value}
-use borrow.Author.Rules.{rules}
 use Rattle.values.proofs.hex.hex_value.Goals as goal
 
 pub returns-then-letter-ge48 : goal.returns-then-letter-ge48

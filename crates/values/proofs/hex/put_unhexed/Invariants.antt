@@ -1,11 +1,8 @@
-use borrow.Author.Rules.{rules}
-use mathlib.Core.List.{[], ◌∷◌}
-use mathlib.Core.Path.{◌≡◌, refl, ap, ◌∙◌}
-use Prim.Native.Nat.{ℕ, ◌+◌, ◌-◌, ◌≤◌, ◌<◌}
-use native.Mathlib.Omega.{arith}
+use mathlib.Core.Path.{◌≡◌}
+use Prim.Native.Nat.{◌-◌, ◌≤◌}
 use lib.ListN.{length, drop}
 use Rattle.printout.specs.Page.{page, entered}
-use Rattle.values.specs.Sources.{unhex, enter-unhex, unhex-done}
+use Rattle.values.specs.Sources.{unhex}
 use Rattle.values.proofs.hex.put_unhexed.Given as goal
 
 abbrev pub invariant-loop-i : goal.invariant-loop-i

@@ -1,6 +1,5 @@
 use mathlib.Core.Path.{sym}
 use Rattle.values.specs.Values.{number_found}
-use borrow.Author.Rules.{rules}
 use Rattle.values.proofs.numbers.number_found.Goals as goal
 
 pub returns-then-read : goal.returns-then-read

@@ -1,12 +1,9 @@
-use mathlib.Core.Path.{◌≡◌, refl, sym, ap, ◌∙◌}
-use mathlib.Core.Bool.{true}
+use mathlib.Core.Path.{◌≡◌}
 use mathlib.Core.List.{map}
-use Prim.Native.Nat.{ℕ, ◌+◌, ◌-◌, ◌*◌, ◌≤◌, ◌<◌}
-use native.Mathlib.Omega.{arith}
+use Prim.Native.Nat.{◌-◌, ◌≤◌}
 use lib.ListN.{length, drop}
-use borrow.Author.Rules.{rules}
-use Rattle.ground.specs.Rows.{row, row-map-step, row-map_end}
-use Rattle.values.specs.Numbers.{digit_value, decimal_value, read_below, above_limit, within_limit}
+use Rattle.ground.specs.Rows.{row}
+use Rattle.values.specs.Numbers.{digit_value, decimal_value}
 use Rattle.values.proofs.numbers.number_up_to.Given as goal
 
 abbrev pub invariant-loop-i : goal.invariant-loop-i

@@ -1,7 +1,6 @@
 use mathlib.Core.Path.{sym}
 use borrow.Author.Tests.{le-ltb, lt-ltb}
 use Rattle.values.specs.Values.{number_value}
-use borrow.Author.Rules.{rules}
 use Rattle.values.proofs.numbers.number_value.Goals as goal
 
 pub returns-then-digits-end : goal.returns-then-digits-end

@@ -4,7 +4,6 @@ use native.Mathlib.Omega.{arith}
 use lib.ListN.{length}
 use Rattle.ground.specs.Lists.{rest_all}
 use Rattle.values.specs.Sources.{part_none, part_past, part_rest}
-use borrow.Author.Rules.{rules}
 use Rattle.values.proofs.sources.part_of.Goals as goal
 
 pub returns-then-start-s : goal.returns-then-start-s

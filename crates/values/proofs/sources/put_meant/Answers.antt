@@ -1,5 +1,4 @@
 use Rattle.values.specs.Sources.{meant}
-use borrow.Author.Rules.{rules}
 use Rattle.values.proofs.sources.put_meant.Goals as goal
 
 pub returns-in-HexDigits : goal.returns-in-HexDigits

@@ -1,10 +1,7 @@
-use borrow.Author.Rules.{rules}
 use mathlib.Core.Path.{◌≡◌, refl, ◌∙◌}
-use Prim.Native.Nat.{◌-◌, ◌<◌}
+use Prim.Native.Nat.{◌<◌}
 use native.Mathlib.Omega.{arith}
-use lib.ListN.{length}
-use Rattle.printout.specs.Page.{page, entered}
-use Rattle.values.specs.Sources.{raw_from, raw_turn_lem, raw_end}
+use Rattle.values.specs.Sources.{raw_turn_lem, raw_end}
 use Rattle.values.proofs.sources.put_raw.Goals as goal
 
 pub loop-turns-init : goal.loop-turns-init
@@ -12,9 +9,9 @@ loop-turns-init c = (refl, refl)
 
 pub loop-turns-preserved : goal.loop-turns-preserved
 loop-turns-preserved c = let h : 0 < c.loop-turns.turns = omega arith in (
-      c.put_word-to.auto.paper ∙ c.loop-turns.invariant.0,
-      raw_turn_lem _ _ _ _ _ _ _ h c.word_at-word.ensures c.raw_next-from.ensures c.put_word-to.ensures ∙ c.loop-turns.invariant.1,
-    )
+  c.put_word-to.auto.paper ∙ c.loop-turns.invariant.0,
+  raw_turn_lem _ _ _ _ _ _ _ h c.word_at-word.ensures c.raw_next-from.ensures c.put_word-to.ensures ∙ c.loop-turns.invariant.1,
+)
 
 pub returns : goal.returns
 returns c = let h : c.loop-turns.turns ≡ 0 = omega arith in

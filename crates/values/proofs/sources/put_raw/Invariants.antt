@@ -1,10 +1,7 @@
-use borrow.Author.Rules.{rules}
-use mathlib.Core.Path.{◌≡◌, refl, ◌∙◌}
-use Prim.Native.Nat.{◌-◌, ◌<◌}
-use native.Mathlib.Omega.{arith}
+use mathlib.Core.Path.{◌≡◌}
 use lib.ListN.{length}
 use Rattle.printout.specs.Page.{page, entered}
-use Rattle.values.specs.Sources.{raw_from, raw_turn_lem, raw_end}
+use Rattle.values.specs.Sources.{raw_from}
 use Rattle.values.proofs.sources.put_raw.Given as goal
 
 abbrev pub invariant-loop-turns : goal.invariant-loop-turns

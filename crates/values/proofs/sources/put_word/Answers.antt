@@ -1,5 +1,4 @@
 use Rattle.printout.specs.Page.{entered}
-use borrow.Author.Rules.{rules}
 use Rattle.values.proofs.sources.put_word.Goals as goal
 
 pub returns-in-PlainWord : goal.returns-in-PlainWord

@@ -1,4 +1,4 @@
-use Rattle.std.proofs.Common.{◌≡◌, ℕ, ◌+◌, ◌-◌, ◌/◌, ◌≤◌, length, sym, refl, ap, ◌∙◌, ap₂, arith, rules}
+use Rattle.std.proofs.Common.{◌≡◌, ℕ, ◌+◌, ◌/◌, length, sym, refl, ap, ◌∙◌, ap₂, arith, rules}
 use Rattle.vectors.specs.Answers.{right, forwards, backwards, out_of, tallied}
 use Rattle.vectors.proofs.Counting.{forwards_next, backwards_next}
 use Rattle.vectors.proofs.blocks.run.Goals as goal

@@ -1,6 +1,5 @@
-use Rattle.std.proofs.Common.{◌≡◌, ℕ, ◌+◌, ◌-◌, ◌/◌, ◌≤◌, length, sym, refl, ap, ◌∙◌, ap₂, arith, rules}
-use Rattle.vectors.specs.Answers.{right, forwards, backwards, out_of, tallied}
-use Rattle.vectors.proofs.Counting.{forwards_next, backwards_next}
+use Rattle.std.proofs.Common.{◌≡◌, ◌-◌, ◌≤◌}
+use Rattle.vectors.specs.Answers.{forwards, backwards}
 use Rattle.vectors.proofs.blocks.run.Given as goal
 
 abbrev pub invariant-loop-i : goal.invariant-loop-i

@@ -1,4 +1,4 @@
-use Rattle.std.proofs.Common.{◌≡◌, ℕ, List, [], ◌∷◌, ◌++◌, get_or, rules}
+use Rattle.std.proofs.Common.{◌≡◌, ℕ, List, [], ◌∷◌, ◌++◌, get_or}
 use Rattle.ground.specs.Rows.{digits}
 use Rattle.cipher.specs.Bits.{bytes}
 use Rattle.vectors.proofs.modes.text_of.Goals as goal

@@ -1,6 +1,5 @@
 use mathlib.Core.Path.{sym, ◌∙◌}
 use Rattle.words.specs.Letters.{is_in}
-use borrow.Author.Rules.{rules}
 use Rattle.words.proofs.letters.is_hex.Goals as goal
 
 pub returns-then-is_between : goal.returns-then-is_between

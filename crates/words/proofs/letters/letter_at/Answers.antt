@@ -1,5 +1,4 @@
 use mathlib.Core.Path.{sym}
-use borrow.Author.Rules.{rules}
 use Rattle.ground.specs.Lists.{get_d_past}
 use Rattle.words.proofs.letters.letter_at.Goals as goal
 

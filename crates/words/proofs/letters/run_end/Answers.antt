@@ -1,9 +1,9 @@
-use mathlib.Core.Path.{◌≡◌, refl, sym, ◌∙◌}
-use Prim.Native.Nat.{◌+◌, ◌-◌, ◌≤◌, ◌<◌}
+use mathlib.Core.Path.{sym, ◌∙◌}
+use Prim.Native.Nat.{◌≤◌, ◌<◌}
 use native.Mathlib.Omega.{arith}
-use lib.ListN.{length, drop}
+use lib.ListN.{length}
 use borrow.Author.Rules.{rules}
-use Rattle.words.specs.Letters.{front, front-on, front_stop, front_end}
+use Rattle.words.specs.Letters.{front-on, front_stop, front_end}
 use Rattle.words.proofs.letters.run_end.Goals as goal
 
 pub loop-i-preserved : goal.loop-i-preserved

@@ -1,9 +1,7 @@
-use mathlib.Core.Path.{◌≡◌, refl, sym, ◌∙◌}
-use Prim.Native.Nat.{◌+◌, ◌-◌, ◌≤◌, ◌<◌}
-use native.Mathlib.Omega.{arith}
+use mathlib.Core.Path.{◌≡◌}
+use Prim.Native.Nat.{◌+◌, ◌-◌}
 use lib.ListN.{length, drop}
-use borrow.Author.Rules.{rules}
-use Rattle.words.specs.Letters.{front, front-on, front_stop, front_end}
+use Rattle.words.specs.Letters.{front}
 use Rattle.words.proofs.letters.run_end.Given as goal
 
 abbrev pub invariant-loop-i : goal.invariant-loop-i

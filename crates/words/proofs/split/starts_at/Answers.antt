@@ -1,6 +1,5 @@
 use borrow.Author.Tests.{eq-eqb, le-leb, lt-leb, ne_eqb}
 use Rattle.words.specs.Split.{starts_at}
-use borrow.Author.Rules.{rules}
 use Rattle.words.proofs.split.starts_at.Goals as goal
 
 pub returns-then-line-start : goal.returns-then-line-start

@@ -1,5 +1,4 @@
 use Rattle.words.specs.Split.{stops}
-use borrow.Author.Rules.{rules}
 use Rattle.words.proofs.split.stops_at.Goals as goal
 
 pub returns : goal.returns

@@ -1,7 +1,6 @@
 use mathlib.Core.Path.{sym, ◌∙◌}
 use borrow.Author.Tests.{le-leb, lt-leb}
 use Rattle.words.specs.Split.{text_at}
-use borrow.Author.Rules.{rules}
 use Rattle.words.proofs.split.text_at.Goals as goal
 
 pub returns-then-line-end : goal.returns-then-line-end

@@ -1,6 +1,5 @@
 use mathlib.Core.Path.{sym}
 use Rattle.words.specs.Split.{word_at}
-use borrow.Author.Rules.{rules}
 use Rattle.words.proofs.split.word_at.Goals as goal
 
 pub returns : goal.returns
