@@ -90,10 +90,7 @@ fn serve(
         }
         desk = served.desk;
     }
-    write_all(
-        1,
-        b"the desk has read 1000000 lines, and stops\n",
-    );
+    write_all(1, b"the desk has read 1000000 lines, and stops\n");
 }
 
 fn main(rt: HostRuntime) {
