@@ -16,7 +16,7 @@ use Rattle.session.specs.Run.{Answered}
 use Rattle.counter.specs.Kept.{Books, next, kept_bytes, end_marked, booked, all_booked}
 use Rattle.grammar.specs.Means.{OfAnswer}
 use Rattle.sittings.proofs.Pages.{placed}
-use Rattle.sittings.specs.Answers.{bytes_of, findRoom, oneKept, allKept, Keeps, Fresh}
+use Rattle.sittings.specs.Answers.{bytes_of, find_room, one_kept, all_kept, Keeps, Fresh}
 
 -- the answer that so many come before
 among : (answers : List Answered) (i : ℕ) → i < length answers → (before : List Answered) × (a : Answered) × (beyond : List Answered) × (answers ≡ before ++ (a ∷ beyond)) × (i ≡ length before)
@@ -28,21 +28,21 @@ among (a ∷ rest) (suc i) h =
 
 -- ---- what is kept
 
-kept_parts : (room : ℕ) (kept : List ℕ) (xs ys : List Answered) → allKept room kept (xs ++ ys) ≡ allKept room (allKept room kept xs) ys
-unfolding allKept
+kept_parts : (room : ℕ) (kept : List ℕ) (xs ys : List Answered) → all_kept room kept (xs ++ ys) ≡ all_kept room (all_kept room kept xs) ys
+unfolding all_kept
 kept_parts room kept [] ys = refl
-kept_parts room kept (a ∷ xs) ys = kept_parts room (oneKept room kept (bytes_of a)) xs ys
+kept_parts room kept (a ∷ xs) ys = kept_parts room (one_kept room kept (bytes_of a)) xs ys
 
 -- what is kept stays where it is
-kept_stays : (room : ℕ) (kept : List ℕ) (xs : List Answered) → (more : List ℕ) × (allKept room kept xs ≡ kept ++ more)
-unfolding allKept oneKept
+kept_stays : (room : ℕ) (kept : List ℕ) (xs : List Answered) → (more : List ℕ) × (all_kept room kept xs ≡ kept ++ more)
+unfolding all_kept one_kept
 kept_stays room kept [] = ([], sym (append-nil kept))
 kept_stays room kept (a ∷ xs) =
-    by_test (findRoom room kept (bytes_of a))
+    by_test (find_room room kept (bytes_of a))
     (λ e.
     let r = kept_stays room (kept ++ bytes_of a) xs in
-    (bytes_of a ++ r.0, ap (λ (t : Bool). allKept room (cond t (kept ++ bytes_of a) kept) xs) e ∙ r.1 ∙ append_assoc kept (bytes_of a) r.0))
-    (λ e. let r = kept_stays room kept xs in (r.0, ap (λ (t : Bool). allKept room (cond t (kept ++ bytes_of a) kept) xs) e ∙ r.1))
+    (bytes_of a ++ r.0, ap (λ (t : Bool). all_kept room (cond t (kept ++ bytes_of a) kept) xs) e ∙ r.1 ∙ append_assoc kept (bytes_of a) r.0))
+    (λ e. let r = kept_stays room kept xs in (r.0, ap (λ (t : Bool). all_kept room (cond t (kept ++ bytes_of a) kept) xs) e ∙ r.1))
 
 -- ---- a page that holds it
 
@@ -52,10 +52,10 @@ record Holds (room : ℕ) (kept : List ℕ) (p : Page) : Type 0 where
   pub within : length kept ≤ room
   pub there : take p.filled p.letters ≡ kept
 
-holds_one : (room : ℕ) (kept : List ℕ) (p : Page) (xs : List ℕ) → Holds room kept p → Holds room (oneKept room kept xs) (kept_bytes xs p)
-unfolding oneKept kept_bytes
+holds_one : (room : ℕ) (kept : List ℕ) (p : Page) (xs : List ℕ) → Holds room kept p → Holds room (one_kept room kept xs) (kept_bytes xs p)
+unfolding one_kept kept_bytes
 holds_one room kept p xs h =
-    by_test (findRoom room kept xs)
+    by_test (find_room room kept xs)
     (λ e.
     let fits : p.filled + length xs ≤ length p.letters = omega (arith, leb-true (length kept + length xs) room e, h.size, h.filled) in
     rw (e, le-leb (p.filled + length xs) (length p.letters) fits, placed xs p.letters p.filled fits)
@@ -95,14 +95,14 @@ other_mark ends n to i h = by_test (ltb n (length ends)) (λ e. rw e (get_or-set
 
 module _ (first room : ℕ) (counted : first < 0xFFFFFFFFFFFFFFFF) where
   record After (done : List Answered) (b : Books) : Type 0 where
-    pub page : Holds room (allKept room [] done) b.bytes
+    pub page : Holds room (all_kept room [] done) b.bytes
     pub marks : length b.ends ≡ suc first
     pub exact : length done ≤ first → b.count ≡ length done
     pub past : first < length done → first < b.count
-    pub ends : (i : ℕ) → i ≤ length done → i ≤ first → get_or b.ends i 0 ≡ length (allKept room [] (take i done))
+    pub ends : (i : ℕ) → i ≤ length done → i ≤ first → get_or b.ends i 0 ≡ length (all_kept room [] (take i done))
 
   fresh-after : (b : Books) → Fresh first room b → After [] b
-  unfolding allKept
+  unfolding all_kept
   fresh-after b h =
       record {
         page = record { size = h.size; filled = h.empty; within = omega arith; there = ap (λ (n : ℕ). take n b.bytes.letters) h.empty };
@@ -120,12 +120,12 @@ module _ (first room : ℕ) (counted : first < 0xFFFFFFFFFFFFFFFF) where
     more-length : length more ≡ suc (length done)
     more-length = length-append done (a ∷ []) ∙ omega arith
 
-    kept_more : allKept room [] more ≡ oneKept room (allKept room [] done) (bytes_of a)
-    unfolding allKept
+    kept_more : all_kept room [] more ≡ one_kept room (all_kept room [] done) (bytes_of a)
+    unfolding all_kept
     kept_more = kept_parts room [] done (a ∷ [])
 
-    page-more : Holds room (allKept room [] more) (kept_bytes (bytes_of a) b.bytes)
-    page-more = subst (λ (k : List ℕ). Holds room k (kept_bytes (bytes_of a) b.bytes)) (sym kept_more) (holds_one room (allKept room [] done) b.bytes (bytes_of a) h.page)
+    page-more : Holds room (all_kept room [] more) (kept_bytes (bytes_of a) b.bytes)
+    page-more = subst (λ (k : List ℕ). Holds room k (kept_bytes (bytes_of a) b.bytes)) (sym kept_more) (holds_one room (all_kept room [] done) b.bytes (bytes_of a) h.page)
 
     next_is : length done ≤ first → next b.count ≡ suc (length done)
     next_is l = ap next (h.exact l) ∙ next_one (length done) (omega arith)
@@ -142,21 +142,21 @@ module _ (first room : ℕ) (counted : first < 0xFFFFFFFFFFFFFFFF) where
     abbrev ends_then : List ℕ
     ends_then = end_marked b.ends (next b.count) (kept_bytes (bytes_of a) b.bytes).filled
 
-    ends_more : (i : ℕ) → i ≤ length more → i ≤ first → get_or ends_then i 0 ≡ length (allKept room [] (take i more))
+    ends_more : (i : ℕ) → i ≤ length more → i ≤ first → get_or ends_then i 0 ≡ length (all_kept room [] (take i more))
     ends_more i l k =
         by_test (leb i (length done))
         (λ t.
         let m = leb-true i (length done) t in
         other_mark b.ends (next b.count) _ i (not_marked i m k)
         ∙ h.ends i m k
-        ∙ ap (λ (x : List Answered). length (allKept room [] x)) (sym (take-append-le i done (a ∷ []) m)))
+        ∙ ap (λ (x : List Answered). length (all_kept room [] x)) (sym (take-append-le i done (a ∷ []) m)))
         (λ t.
         let m = leb-false i (length done) t in
         let is : i ≡ next b.count = omega (arith, next_is (omega arith), more-length) in
         ap (λ (j : ℕ). get_or ends_then j 0) is
         ∙ own_mark b.ends (next b.count) _ (omega (arith, h.marks))
         ∙ page-more.filled
-        ∙ ap (λ (x : List Answered). length (allKept room [] x)) (sym (take_all i more (omega (arith, more-length)))))
+        ∙ ap (λ (x : List Answered). length (all_kept room [] x)) (sym (take_all i more (omega (arith, more-length)))))
 
     after_more : After more (booked a b)
     unfolding booked
@@ -190,35 +190,35 @@ module _ (first room : ℕ) (counted : first < 0xFFFFFFFFFFFFFFFF) where
     done = before ++ (a ∷ beyond)
 
     abbrev kept : List ℕ
-    kept = allKept room [] before
+    kept = all_kept room [] before
 
     done-length : length done ≡ suc (length before + length beyond)
     done-length = length-append before (a ∷ beyond) ∙ omega arith
 
     mark_before : length before ≤ first → get_or b.ends (length before) 0 ≡ length kept
-    mark_before l = h.ends (length before) (omega (arith, done-length)) l ∙ ap (λ (x : List Answered). length (allKept room [] x)) (take_at before (a ∷ beyond) (length before) refl)
+    mark_before l = h.ends (length before) (omega (arith, done-length)) l ∙ ap (λ (x : List Answered). length (all_kept room [] x)) (take_at before (a ∷ beyond) (length before) refl)
 
     up_to_it : take (suc (length before)) done ≡ before ++ (a ∷ [])
     up_to_it =
         ap (take (suc (length before))) (sym (append_assoc before (a ∷ []) beyond))
         ∙ take_at (before ++ (a ∷ [])) beyond (suc (length before)) (length-append before (a ∷ []) ∙ omega arith)
 
-    mark_after : suc (length before) ≤ first → get_or b.ends (suc (length before)) 0 ≡ length (oneKept room kept (bytes_of a))
-    unfolding allKept
+    mark_after : suc (length before) ≤ first → get_or b.ends (suc (length before)) 0 ≡ length (one_kept room kept (bytes_of a))
+    unfolding all_kept
     mark_after l =
         h.ends (suc (length before)) (omega (arith, done-length)) l
-        ∙ ap (λ (x : List Answered). length (allKept room [] x)) up_to_it
+        ∙ ap (λ (x : List Answered). length (all_kept room [] x)) up_to_it
         ∙ ap length (kept_parts room [] before (a ∷ []))
 
     -- its bytes stand behind those kept before it
     stand : length kept + length (bytes_of a) ≤ room → (rest : List ℕ) × (b.bytes.letters ≡ kept ++ (bytes_of a ++ rest))
-    unfolding allKept oneKept
+    unfolding all_kept one_kept
     stand fits =
         let r = kept_stays room (kept ++ bytes_of a) beyond in
         let p = b.bytes in
-        let all : allKept room [] done ≡ (kept ++ bytes_of a) ++ r.0 =
+        let all : all_kept room [] done ≡ (kept ++ bytes_of a) ++ r.0 =
         kept_parts room [] before (a ∷ beyond)
-        ∙ ap (λ (t : Bool). allKept room (cond t (kept ++ bytes_of a) kept) beyond) (le-leb (length kept + length (bytes_of a)) room fits)
+        ∙ ap (λ (t : Bool). all_kept room (cond t (kept ++ bytes_of a) kept) beyond) (le-leb (length kept + length (bytes_of a)) room fits)
         ∙ r.1 in (
           r.0 ++ drop p.filled p.letters,
           sym (take-append-drop p.filled p.letters)
@@ -259,12 +259,12 @@ module _ (first room : ℕ) (counted : first < 0xFFFFFFFFFFFFFFFF) where
         (x.0, x.1, by_test (leb (length answers) first) (λ t. omega (arith, x.1, h.exact (leb-true (length answers) first t))) (λ t. omega (arith, x.0, leb-false (length answers) first t)))
 
     keeps_of : Keeps first room answers n bytes → OfAnswer letters ends n bytes
-    unfolding oneKept
+    unfolding one_kept
     keeps_of k =
         let there = subst (λ (l : List Answered). After l b) k.whole h in
         let size = done-length k.before k.answer k.beyond b there in
         let l : n ≤ b.count = (was_given (given (omega (arith, k.ordinal, size, ap length k.whole)) k.early)).1 in
-        let kept = allKept room [] k.before in
+        let kept = all_kept room [] k.before in
         let fits : length kept + length (bytes_of k.answer) ≤ room = omega (arith, k.found, ap length k.bytes) in
         let s = stand k.before k.answer k.beyond b there fits in
         let o : n - 1 ≡ length k.before = omega (arith, k.ordinal) in
@@ -284,21 +284,21 @@ module _ (first room : ℕ) (counted : first < 0xFFFFFFFFFFFFFFFF) where
         }
 
     of_keeps : OfAnswer letters ends n bytes → Keeps first room answers n bytes
-    unfolding oneKept
+    unfolding one_kept
     of_keeps o =
         let g = was_given o.given.1 in
         let x = among answers (n - 1) (omega (arith, g.2, o.given.0)) in
         let before = x.0 in
         let a = x.1 in
         let there = subst (λ (l : List Answered). After l b) x.3 h in
-        let kept = allKept room [] before in
+        let kept = all_kept room [] before in
         let ordinal : n ≡ suc (length before) = omega (arith, x.4, o.given.0) in
         let early : n ≤ first = g.0 in
         let from : length o.before ≡ length kept =
         o.from ∙ get_or-take (b.count + 1) b.ends (n - 1) 0 (omega (arith, g.1)) ∙ ap (λ (j : ℕ). get_or b.ends j 0) x.4 ∙ mark_before before a x.2 b there (omega (arith, ordinal, early)) in
-        let to : length o.before + length bytes ≡ length (oneKept room kept (bytes_of a)) =
+        let to : length o.before + length bytes ≡ length (one_kept room kept (bytes_of a)) =
         o.to ∙ get_or-take (b.count + 1) b.ends n 0 (omega (arith, g.1)) ∙ ap (λ (j : ℕ). get_or b.ends j 0) ordinal ∙ mark_after before a x.2 b there (omega (arith, ordinal, early)) in
-        by_test (findRoom room kept (bytes_of a))
+        by_test (find_room room kept (bytes_of a))
         (λ t.
         let fits = leb-true (length kept + length (bytes_of a)) room t in
         let s = stand before a x.2 b there fits in

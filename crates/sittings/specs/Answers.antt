@@ -6,16 +6,16 @@ use Rattle.counter.specs.Kept.{Books}
 abbrev pub bytes_of : Answered → List ℕ
 bytes_of a = shown_of a.told.answer a.told.block a.told.output
 
-abbrev pub findRoom : (room : ℕ) → (kept bytes : List ℕ) → Bool
-findRoom room kept bytes = leb (length kept + length bytes) room
+abbrev pub find_room : (room : ℕ) → (kept bytes : List ℕ) → Bool
+find_room room kept bytes = leb (length kept + length bytes) room
 
 -- an answer's bytes behind those kept, if they find room there
-unfoldable pub oneKept : (room : ℕ) → (kept bytes : List ℕ) → List ℕ
-oneKept room kept bytes = cond (findRoom room kept bytes) (kept ++ bytes) kept
+unfoldable pub one_kept : (room : ℕ) → (kept bytes : List ℕ) → List ℕ
+one_kept room kept bytes = cond (find_room room kept bytes) (kept ++ bytes) kept
 
-unfoldable pub allKept : (room : ℕ) → List ℕ → List Answered → List ℕ
-allKept room kept [] = kept
-allKept room kept (a ∷ rest) = allKept room (oneKept room kept (bytes_of a)) rest
+unfoldable pub all_kept : (room : ℕ) → List ℕ → List Answered → List ℕ
+all_kept room kept [] = kept
+all_kept room kept (a ∷ rest) = all_kept room (one_kept room kept (bytes_of a)) rest
 
 -- answer n is among the first, has the bytes b, and found room for them when it was given
 pub record Keeps (first room : ℕ) (answers : List Answered) (n : ℕ) (b : List ℕ) : Type 0 where
@@ -27,7 +27,7 @@ pub record Keeps (first room : ℕ) (answers : List Answered) (n : ℕ) (b : Lis
   pub early : n ≤ first
   pub bytes : b ≡ bytes_of answer
   pub some : 0 < length b
-  pub found : length (allKept room [] before) + length b ≤ room
+  pub found : length (all_kept room [] before) + length b ≤ room
 
 -- books before the first answer: so much room for bytes, and a mark for where each of the first answers ends, with one before them
 pub record Fresh (first room : ℕ) (b : Books) : Type 0 where

@@ -2,7 +2,7 @@
 use Rattle.std.proofs.Common.{◌≡◌, ℕ, ◌+◌, Bool, true, false, cond, T, eqb, List, [], ◌∷◌, refl, ap₂, add-one, arith, eqb→eq, eq-eqb}
 use Rattle.ground.specs.Tests.{both_left, both_right}
 use Rattle.cipher.specs.Cipher.{enciphered, deciphered}
-use Rattle.vectors.specs.Answers.{equal, one, right, key_at, plainAt, cipherAt, forwards, backwards}
+use Rattle.vectors.specs.Answers.{equal, one, right, key_at, plain_at, cipher_at, forwards, backwards}
 
 equal_self : (xs : List ℕ) → equal xs xs ≡ true
 unfolding equal
@@ -37,10 +37,10 @@ right_next : (answer published : ℕ → List ℕ) (n : ℕ) → right answer pu
 unfolding right
 right_next a p n = rw add-one
 
-pub forwards_next : (t : List ℕ) (n : ℕ) → forwards t (n + 1) ≡ forwards t n + one (enciphered (key_at t n) (plainAt t n)) (cipherAt t n)
+pub forwards_next : (t : List ℕ) (n : ℕ) → forwards t (n + 1) ≡ forwards t n + one (enciphered (key_at t n) (plain_at t n)) (cipher_at t n)
 unfolding forwards
-forwards_next t n = right_next (λ (i : ℕ). enciphered (key_at t i) (plainAt t i)) (cipherAt t) n
+forwards_next t n = right_next (λ (i : ℕ). enciphered (key_at t i) (plain_at t i)) (cipher_at t) n
 
-pub backwards_next : (t : List ℕ) (n : ℕ) → backwards t (n + 1) ≡ backwards t n + one (deciphered (key_at t n) (cipherAt t n)) (plainAt t n)
+pub backwards_next : (t : List ℕ) (n : ℕ) → backwards t (n + 1) ≡ backwards t n + one (deciphered (key_at t n) (cipher_at t n)) (plain_at t n)
 unfolding backwards
-backwards_next t n = right_next (λ (i : ℕ). deciphered (key_at t i) (cipherAt t i)) (plainAt t) n
+backwards_next t n = right_next (λ (i : ℕ). deciphered (key_at t i) (cipher_at t i)) (plain_at t) n

@@ -24,18 +24,18 @@ right answer published (suc n) = right answer published n + one (answer n) (publ
 abbrev pub key_at : List ℕ → ℕ → List ℕ
 key_at t i = bytes (slice_index t (3 * i))
 
-abbrev pub plainAt : List ℕ → ℕ → List ℕ
-plainAt t i = bytes (slice_index t (3 * i + 1))
+abbrev pub plain_at : List ℕ → ℕ → List ℕ
+plain_at t i = bytes (slice_index t (3 * i + 1))
 
-abbrev pub cipherAt : List ℕ → ℕ → List ℕ
-cipherAt t i = bytes (slice_index t (3 * i + 2))
+abbrev pub cipher_at : List ℕ → ℕ → List ℕ
+cipher_at t i = bytes (slice_index t (3 * i + 2))
 
 -- of the first n rows: plain blocks that are enciphered right, cipher blocks that are deciphered right
 unfoldable pub forwards : List ℕ → ℕ → ℕ
-forwards t n = right (λ (i : ℕ). enciphered (key_at t i) (plainAt t i)) (cipherAt t) n
+forwards t n = right (λ (i : ℕ). enciphered (key_at t i) (plain_at t i)) (cipher_at t) n
 
 unfoldable pub backwards : List ℕ → ℕ → ℕ
-backwards t n = right (λ (i : ℕ). deciphered (key_at t i) (cipherAt t i)) (plainAt t) n
+backwards t n = right (λ (i : ℕ). deciphered (key_at t i) (cipher_at t i)) (plain_at t) n
 
 -- n questions each way, of which e and d are answered right
 unfoldable pub out_of : ℕ → ℕ → ℕ → Tally

@@ -5,7 +5,7 @@
 mod answers;
 mod blocks;
 mod fips113;
-mod fips81;
+mod fips_81;
 mod fixity;
 mod modes;
 mod report;

@@ -5,7 +5,7 @@ ghost use Rattle.cipher.specs.Cipher.{applied};
 ghost use Rattle.vectors.specs.Answers.{one};
 
 use crate::answers::{Tally, judged};
-use crate::fips81::{CBC, CFB64, ECB, KEY, PLAIN, VECTOR};
+use crate::fips_81::{CBC, CFB64, ECB, KEY, PLAIN, VECTOR};
 use crate::report::line;
 use cipher::bytes_of;
 use cipher::keys::{DataKey, Vector};
