@@ -2,25 +2,29 @@
 use mathlib.Core.Path.{◌≡◌, refl, sym, ap, ◌∙◌}
 use mathlib.Core.Bool.{Bool, true, false, cond, not, true≢false}
 use mathlib.Core.List.{[], ◌∷◌}
-use Prim.Native.Nat.{ℕ, ◌%◌, ◌≤◌}
+use Prim.Native.Nat.{ℕ, ◌%◌, ◌≤◌, ◌<◌}
 use native.Mathlib.Omega.{arith}
 use lib.Dec.{eqb}
 use lib.ListN.{length}
 use borrow.Author.Tests.{eqb-true, eqb-false, eq-eqb, ne_eqb, ltb-false}
+use Rattle.std.specs.Prelude.{IsErrAnd}
+use Rattle.std.proofs.lemmas.Result.{err_from_is_err_and}
 use Rattle.ground.specs.Search.{by_test}
 use Rattle.cipher.specs.declared.modes.Mode.{Mode}
 use Rattle.cipher.specs.declared.modes.Mode.TheVariants.{Ecbe, Ecbd, Cbce, Cbcd, Cfbe, Cfbd}
 use Rattle.state.specs.declared.Facility.{Facility}
 use Rattle.state.specs.State.{Bytes}
 use Rattle.table.specs.Passwords.{big}
-use Rattle.rules.specs.declared.Answer.TheVariants.{Refused}
-use Rattle.rules.specs.declared.Outcome.{Outcome}
+use Rattle.rules.specs.declared.Refusal.{Refusal}
+use Rattle.rules.specs.declared.Refusal.TheVariants.{Identifier, TableLength, NotActive, AlreadyActive, KeyFunction, Interchange, OutOfTurn, AllTaken, NotAuthenticated}
+use Rattle.rules.specs.declared.Refusal.TheVariants.{KeyMissing, VectorMissing, DataLength, OutputLength, EvenParity, NoEntry, Form, Cut}
 use Rattle.rules.specs.World.{World, over, Own, own, shut_for, mine}
 use Rattle.rules.specs.Sides.{mode_side, lacks_vector}
-use Rattle.rules.specs.Refusals.{on, r1, r3, r10, r12⁸, r13, test, first_of, bad_length, bad_blocks}
+use Rattle.rules.specs.Refusals.{on, r1, r3, r10, r12⁸, r13, number, test, first_of, bad_length, bad_blocks}
 use Rattle.rules.specs.Commands.{mode, DAUT, refusals, LAU, Command, by, EIK, IPW, RPW, logout, tests, Effect, refused, effect}
-use Rattle.rules.specs.Step.{rule, carry, plain, told, Result, result, effected, step}
-use Rattle.rules.specs.Outcomes.{left, refused_of}
+use Rattle.rules.specs.Step.{Refused, rule, carry, plain, told, Result, result, effected, step}
+use Rattle.rules.specs.declared.Outcome.{Outcome}
+use Rattle.rules.specs.Outcomes.{left}
 
 -- where the verdict is 0, the test fails, and so do those after it
 pub passed : (r : ℕ) (t : Bool) (n m : ℕ) → r ≡ test t n m → r ≡ 0 → (n ≡ 0 → ⊥) → (t ≡ false) × (m ≡ 0)
@@ -98,11 +102,36 @@ halves w (IPW u p) out = refl
 halves w RPW out = refl
 halves w (logout u) out = let n = first_of (tests (logout u) w out) in by_number (eqb n 0) n u (effect u LAU (own u w)) w out
 
-module _ (f : Facility) (c : Command) (t out : Bytes) (n : ℕ) (e : n ≡ first_of (tests c (over f t) out)) where
+-- no number is 0
+number_above : (e : Refusal) → number e ≡ 0 → ⊥
+number_above Identifier h = omega (arith, h)
+number_above TableLength h = omega (arith, h)
+number_above NotActive h = omega (arith, h)
+number_above AlreadyActive h = omega (arith, h)
+number_above KeyFunction h = omega (arith, h)
+number_above Interchange h = omega (arith, h)
+number_above OutOfTurn h = omega (arith, h)
+number_above AllTaken h = omega (arith, h)
+number_above NotAuthenticated h = omega (arith, h)
+number_above KeyMissing h = omega (arith, h)
+number_above VectorMissing h = omega (arith, h)
+number_above DataLength h = omega (arith, h)
+number_above OutputLength h = omega (arith, h)
+number_above EvenParity h = omega (arith, h)
+number_above NoEntry h = omega (arith, h)
+number_above Form h = omega (arith, h)
+number_above Cut h = omega (arith, h)
+
+module _ (f : Facility) (c : Command) (t out : Bytes) where
   -- some condition holds: refused
-  pub by_refusal : (n ≡ 0 → ⊥) → (r : Outcome) → r ≡ refused_of f n → left r t out ≡ step (over f t) c out
-  by_refusal z r d = rw (halves (over f t) c out, ← e, ne_eqb n 0 z, d)
+  pub by_refusal : (e : Refusal) → first_of (tests c (over f t) out) ≡ number e → result (plain (Refused (number e)) out) (over f t) ≡ step (over f t) c out
+  by_refusal e z = rw (halves (over f t) c out, z, ne_eqb (number e) 0 (number_above e)) refl
+
+  -- left where a step answered with a refusal
+  pub at_exit : (r : Rattle.std.specs.Prelude.Result Outcome Refusal) (P : Type 0) (x why : Refusal) → IsErrAnd r (λ y. y ≡ x) → P × (x ≡ why)
+      → first_of (tests c (over f t) out) ≡ number why → left f r t out ≡ step (over f t) c out
+  at_exit r P x why h w z = let p = err_from_is_err_and r h in rw (p.1, p.2, w.1) (by_refusal why z)
 
   -- none holds: the effect
-  pub by_effect : n ≡ 0 → (a : Result) → a ≡ effected (over f t) c out → a ≡ step (over f t) c out
-  by_effect z a d = rw (halves (over f t) c out, ← e, eq-eqb n 0 z) d
+  pub by_effect : first_of (tests c (over f t) out) ≡ 0 → (a : Result) → a ≡ effected (over f t) c out → a ≡ step (over f t) c out
+  by_effect z a d = rw (halves (over f t) c out, z) d

@@ -10,8 +10,31 @@ use Rattle.state.specs.declared.Facility.{Facility}
 use Rattle.state.specs.State.{Bytes, named, key_at}
 use Rattle.table.specs.Entries.{fits, free_id, is_some, entry_of}
 use Rattle.table.specs.Passwords.{big, same, authentic}
+use Rattle.rules.specs.declared.Refusal.{Refusal}
+use Rattle.rules.specs.declared.Refusal.TheVariants.{Identifier, TableLength, NotActive, AlreadyActive, KeyFunction, Interchange, OutOfTurn, AllTaken, NotAuthenticated}
+use Rattle.rules.specs.declared.Refusal.TheVariants.{KeyMissing, VectorMissing, DataLength, OutputLength, EvenParity, NoEntry, Form, Cut}
 use Rattle.rules.specs.World.{Own, current}
 use Rattle.rules.specs.Sides.{function_of, unknown, wrong_pair}
+
+-- the code's refusals by their numbers
+abbrev pub number : Refusal → ℕ
+number Identifier = 1
+number TableLength = 2
+number NotActive = 3
+number AlreadyActive = 4
+number KeyFunction = 5
+number Interchange = 6
+number OutOfTurn = 7
+number AllTaken = 8
+number NotAuthenticated = 9
+number KeyMissing = 10
+number VectorMissing = 11
+number DataLength = 12
+number OutputLength = 13
+number EvenParity = 14
+number NoEntry = 15
+number Form = 16
+number Cut = 17
 
 -- a number with its condition
 pub record Test : Type 0 where

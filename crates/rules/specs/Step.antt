@@ -4,8 +4,6 @@ use Rattle.cipher.specs.Cipher.{onto}
 use Rattle.state.specs.State.{Bytes, zeros, give, leave, with_places}
 use Rattle.table.specs.Entries.{enter}
 use Rattle.table.specs.Passwords.{sealed}
-use Rattle.rules.specs.declared.Answer.{Answer}
-use Rattle.rules.specs.declared.Answer.TheVariants.{Done, Gave, Wrote, Refused}
 use Rattle.rules.specs.World.{World, over, Own, own, shut_for, key1}
 use Rattle.rules.specs.Refusals.{first_of}
 use Rattle.rules.specs.Commands.{UserCommand, LAU, Command, by, EIK, IPW, RPW, logout, refusals, Effect}
@@ -30,6 +28,13 @@ carry u (enters password) w = over w.facility (enter u (sealed (key1 w) u passwo
 carry u (writes b h) w = over (with_places w.facility (give u h w.facility.places)) w.table
 
 -- ---- what the issuer gets: the answer, its eight bytes, and the output as it then is
+
+-- done; done, with so many of the eight bytes given; done, with so many bytes written to the output; or refused, with its number
+pub data Answer : Type 0 where
+  Done : Answer
+  Gave : ℕ → Answer
+  Wrote : ℕ → Answer
+  Refused : ℕ → Answer
 
 pub record Told : Type 0 where
   pub answer : Answer

@@ -1,7 +1,7 @@
 // The conditions of the refusals.
 ghost use Rattle.std.specs.Prelude.{◌≡◌};
 ghost use Rattle.rules.specs.Sides.{function_of, unknown, wrong_pair, lacks_vector};
-ghost use Rattle.rules.specs.Refusals.{big_pair, bad_length, bad_blocks, of_own, test};
+ghost use Rattle.rules.specs.Refusals.{big_pair, bad_length, bad_blocks, of_own};
 
 use crate::Function;
 use cipher::modes::Mode;
@@ -84,9 +84,3 @@ pub fn own_name(name: u8, yes: bool, no: bool) -> bool
     if name == 1 { yes } else { no }
 }
 
-// A refusal's number where its condition holds, else the number of those after it.
-pub fn first(n: u8, condition: bool, rest: u8) -> u8
-    ensures { result ≡ test condition n rest }
-{
-    if condition { n } else { rest }
-}

@@ -2,8 +2,8 @@
 
 #![tactic(auto)]
 
+pub mod answers;
 pub mod conditions;
-pub mod replies;
 pub mod sides;
 
 use state::Facility;
@@ -17,19 +17,39 @@ pub enum Function {
     Neither,
 }
 
-// Done; done, with so many of the eight bytes given; done, with so many bytes written to the output; or refused, with its number.
-#[derive(Clone, Copy)]
-pub enum Answer {
-    Done,
-    Gave(u8),
-    Wrote(usize),
-    Refused(u8),
+// The page's "Refusal numbers", in its order. (`specs/Refusals.number` has the numbers.)
+#[derive(Clone, Copy, PartialEq, Eq, Debug)]
+pub enum Refusal {
+    Identifier,
+    TableLength,
+    NotActive,
+    AlreadyActive,
+    KeyFunction,
+    Interchange,
+    OutOfTurn,
+    AllTaken,
+    NotAuthenticated,
+    KeyMissing,
+    VectorMissing,
+    DataLength,
+    OutputLength,
+    EvenParity,
+    NoEntry,
+    Form,
+    Cut,
 }
 
-// The facility after a command, and its answer. The bytes that were not given are zeros.
+// What a command gives that is done: no more than that; eight bytes; or so many bytes written to the output.
+#[derive(Clone, Copy)]
+pub enum Reply {
+    Plain,
+    Block([u8; 8]),
+    Output(usize),
+}
+
+// The facility after a command that is done, and its reply.
 #[derive(Clone, Copy)]
 pub struct Outcome {
     pub state: Facility,
-    pub answer: Answer,
-    pub block: [u8; 8],
+    pub reply: Reply,
 }

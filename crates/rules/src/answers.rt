@@ -1,0 +1,67 @@
+// Answers: a refusal, where its condition holds, and the outcomes of what is done.
+ghost use Rattle.std.specs.Prelude.{◌≡◌};
+ghost use Rattle.rules.specs.Refusals.{number};
+ghost use Rattle.rules.specs.Outcomes.{Refusing, done_of, gave_of, wrote_of};
+
+use crate::{Outcome, Refusal, Reply};
+use state::Facility;
+
+impl From<Refusal> for u8 {
+    ghost from_gives = { λ e n. n ≡ number e };
+
+    fn from(why: Refusal) -> u8 {
+        match why {
+            Refusal::Identifier => 1,
+            Refusal::TableLength => 2,
+            Refusal::NotActive => 3,
+            Refusal::AlreadyActive => 4,
+            Refusal::KeyFunction => 5,
+            Refusal::Interchange => 6,
+            Refusal::OutOfTurn => 7,
+            Refusal::AllTaken => 8,
+            Refusal::NotAuthenticated => 9,
+            Refusal::KeyMissing => 10,
+            Refusal::VectorMissing => 11,
+            Refusal::DataLength => 12,
+            Refusal::OutputLength => 13,
+            Refusal::EvenParity => 14,
+            Refusal::NoEntry => 15,
+            Refusal::Form => 16,
+            Refusal::Cut => 17,
+        }
+    }
+}
+
+// A command goes on past a condition that does not hold.
+pub fn refuse(condition: bool, why: Refusal) -> Result<(), Refusal>
+    ensures { Refusing condition why result }
+{
+    if condition { Err(why) } else { Ok(()) }
+}
+
+pub fn done(state: Facility) -> Outcome
+    ensures { result ≡ done_of state }
+{
+    Outcome {
+        state,
+        reply: Reply::Plain,
+    }
+}
+
+pub fn given(state: Facility, block: [u8; 8]) -> Outcome
+    ensures { result ≡ gave_of state block }
+{
+    Outcome {
+        state,
+        reply: Reply::Block(block),
+    }
+}
+
+pub fn wrote(state: Facility, n: usize) -> Outcome
+    ensures { result ≡ wrote_of state n }
+{
+    Outcome {
+        state,
+        reply: Reply::Output(n),
+    }
+}
