@@ -8,12 +8,12 @@ ghost use Rattle.rules.specs.Outcomes.{left};
 ghost use Rattle.facility.specs.Requests.{performed};
 
 use admission::{cpw, host_logout, lau, ras};
+use cipher::modes::Mode;
 use exchange::data_keys::{gdk, ldk, rdk};
 use exchange::vectors::{eiv, giv, liv};
 use officer::{eik, ipw, rpw};
-use records::{cbcd, cbce, cfbd, cfbe, daut, ecbd, ecbe};
-use rules::Outcome;
-use rules::replies::refused;
+use records::{by_mode, daut};
+use rules::{Outcome, Refusal};
 use state::Facility;
 use stream::Request;
 
@@ -24,47 +24,39 @@ pub fn perform(
     out: &mut [u8],
     asked: Request,
     text: &[u8],
-) -> Outcome
-    ensures { left result table.new out.new ≡ performed (over f table.old) asked text.now out.old }
+) -> Result<Outcome, Refusal>
+    ensures { left f result table.new out.new ≡ performed (over f table.old) asked text.now out.old }
 {
-    let tag = asked.tag;
-    let block = asked.block;
-    let second = asked.second;
+    let Request {
+        tag,
+        issuer,
+        party,
+        interchange,
+        function,
+        block,
+        second,
+    } = asked;
     match tag {
-        0x01 => ras(f, &table[..], asked.issuer, block),
-        0x02 => lau(f, asked.issuer),
-        0x03 => cpw(f, &mut table[..], asked.issuer, block, second),
-        0x04 => gdk(f, asked.issuer, asked.party, asked.interchange, block),
-        0x05 => ldk(
-            f,
-            asked.issuer,
-            asked.party,
-            asked.interchange,
-            asked.function,
-            block,
-        ),
-        0x06 => giv(f, asked.issuer, block),
-        0x07 => liv(f, asked.issuer, asked.function, block),
-        0x08 => eiv(f, asked.issuer, block),
-        0x09 => rdk(
-            f,
-            asked.issuer,
-            asked.party,
-            asked.interchange,
-            asked.function,
-            block,
-        ),
-        0x0A => ecbe(f, asked.issuer, text, &mut out[..]),
-        0x0B => ecbd(f, asked.issuer, text, &mut out[..]),
-        0x0C => cbce(f, asked.issuer, text, &mut out[..]),
-        0x0D => cbcd(f, asked.issuer, text, &mut out[..]),
-        0x0E => cfbe(f, asked.issuer, text, &mut out[..]),
-        0x0F => cfbd(f, asked.issuer, text, &mut out[..]),
-        0x10 => daut(f, asked.issuer, asked.function, text),
-        0x20 => eik(f, asked.interchange, block),
-        0x21 => ipw(f, &mut table[..], asked.issuer, block),
-        0x22 => rpw(f, &mut table[..]),
-        0x23 => host_logout(f, asked.issuer),
-        _ => refused(f, 16),
+        0x01 => ras(f, table, issuer, block),
+        0x02 => lau(f, issuer),
+        0x03 => cpw(f, table, issuer, block, second),
+        0x04 => gdk(f, issuer, party, interchange, block),
+        0x05 => ldk(f, issuer, party, interchange, function, block),
+        0x06 => giv(f, issuer, block),
+        0x07 => liv(f, issuer, function, block),
+        0x08 => eiv(f, issuer, block),
+        0x09 => rdk(f, issuer, party, interchange, function, block),
+        0x0A => by_mode(f, issuer, Mode::Ecbe, text, out),
+        0x0B => by_mode(f, issuer, Mode::Ecbd, text, out),
+        0x0C => by_mode(f, issuer, Mode::Cbce, text, out),
+        0x0D => by_mode(f, issuer, Mode::Cbcd, text, out),
+        0x0E => by_mode(f, issuer, Mode::Cfbe, text, out),
+        0x0F => by_mode(f, issuer, Mode::Cfbd, text, out),
+        0x10 => daut(f, issuer, function, text),
+        0x20 => eik(f, interchange, block),
+        0x21 => ipw(f, table, issuer, block),
+        0x22 => rpw(f, table),
+        0x23 => host_logout(f, issuer),
+        _ => Err(Refusal::Form),
     }
 }

@@ -103,7 +103,7 @@ halves w RPW out = refl
 halves w (logout u) out = let n = first_of (tests (logout u) w out) in by_number (eqb n 0) n u (effect u LAU (own u w)) w out
 
 -- no number is 0
-number_above : (e : Refusal) → number e ≡ 0 → ⊥
+pub number_above : (e : Refusal) → number e ≡ 0 → ⊥
 number_above Identifier h = omega (arith, h)
 number_above TableLength h = omega (arith, h)
 number_above NotActive h = omega (arith, h)

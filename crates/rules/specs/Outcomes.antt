@@ -1,5 +1,5 @@
 -- The forms of the commands' contracts: what the code returned, with the table and the output as it left them, is one step.
-use Rattle.std.specs.Prelude.{◌≡◌, Bool, true, false, ℕ, length, Result, Ok, Err, MatchResult}
+use Rattle.std.specs.Prelude.{◌≡◌, ℕ, length, Result, Ok, Err}
 use Rattle.state.specs.declared.Facility.{Facility}
 use Rattle.state.specs.State.{Bytes}
 use Rattle.rules.specs.declared.Refusal.{Refusal}
@@ -36,11 +36,7 @@ StepsTable f t c r t' = (out : Bytes) → left f r t' out ≡ step (over f t) c 
 abbrev pub StepsOutput : Facility → Bytes → Command → Result Outcome Refusal → Bytes → Type 0
 StepsOutput f out c r out' = (t : Bytes) → left f r t out' ≡ step (over f t) c out
 
--- ---- the code's steps
-
--- refused where the condition holds, and for no other reason
-abbrev pub Refusing : Bool → Refusal → Result (Unit {0}) Refusal → Type 0
-Refusing b why r = MatchResult r (λ _. b ≡ false) (λ e. (b ≡ true) × (e ≡ why))
+-- ---- what is done
 
 abbrev pub done_of : Facility → Outcome
 done_of f = record { state = f; reply = Plain }

@@ -7,7 +7,7 @@ use Rattle.cipher.specs.declared.modes.Mode.TheVariants.{Ecbe, Ecbd, Cbce, Cbcd,
 use Rattle.keys.specs.Keys.{notarized}
 use Rattle.state.specs.declared.Side.{Side}
 use Rattle.state.specs.declared.Holdings.{Holdings}
-use Rattle.state.specs.State.{Bytes, no_vector}
+use Rattle.state.specs.State.{Bytes, held, no_vector}
 use Rattle.rules.specs.declared.Function.{Function}
 use Rattle.rules.specs.declared.Function.TheVariants.{Transmit, Receive, Both, Neither}
 
@@ -48,7 +48,7 @@ side_for Neither h = h.transmit
 
 -- a side with a key just loaded: its vector is removed
 abbrev pub loaded : DataKey → Side
-loaded k = record { key = record { present = true; key = k }; vector = no_vector }
+loaded k = record { key = held k; vector = no_vector }
 
 unfoldable pub with_key : Function → DataKey → Holdings → Holdings
 with_key Transmit k h = record { transmit = loaded k; receive = h.receive }
@@ -57,7 +57,7 @@ with_key Both k h = record { transmit = loaded k; receive = loaded k }
 with_key Neither k h = h
 
 abbrev pub vectored : Vector → Side → Side
-vectored v s = record { key = s.key; vector = record { present = true; vector = v } }
+vectored v s = record { key = s.key; vector = held v }
 
 unfoldable pub with_vector : Function → Vector → Holdings → Holdings
 with_vector Transmit v h = record { transmit = vectored v h.transmit; receive = h.receive }

@@ -1,7 +1,7 @@
 // Answers: a refusal, where its condition holds, and the outcomes of what is done.
 ghost use Rattle.std.specs.Prelude.{◌≡◌};
 ghost use Rattle.rules.specs.Refusals.{number};
-ghost use Rattle.rules.specs.Outcomes.{Refusing, done_of, gave_of, wrote_of};
+ghost use Rattle.rules.specs.Outcomes.{done_of, gave_of, wrote_of};
 
 use crate::{Outcome, Refusal, Reply};
 use state::Facility;
@@ -30,13 +30,6 @@ impl From<Refusal> for u8 {
             Refusal::Cut => 17,
         }
     }
-}
-
-// A command goes on past a condition that does not hold.
-pub fn refuse(condition: bool, why: Refusal) -> Result<(), Refusal>
-    ensures { Refusing condition why result }
-{
-    if condition { Err(why) } else { Ok(()) }
 }
 
 pub fn done(state: Facility) -> Outcome

@@ -1,23 +1,17 @@
-use Rattle.rules.specs.Commands.{tests, refusals, effect}
+use Rattle.std.proofs.Common.{arith}
+use Rattle.std.proofs.lemmas.Grind.{common_steps}
+use Rattle.rules.specs.Commands.{tests, refusals}
 use Rattle.rules.specs.Refusals.{test}
-use Rattle.rules.specs.Step.{effected}
-use Rattle.rules.proofs.Laws.{at_exit, by_effect}
+use Rattle.rules.specs.World.{seat_of}
+use Rattle.rules.proofs.Laws.{at_exit}
 use Rattle.admission.proofs.lau.Goals as goal
 
 pub returns-in_err-refuse : goal.returns-in_err-refuse
-unfolding tests refusals test
-returns-in_err-refuse c t out = at_exit _ _ t out _ _ _ _ c.from_residual.ensures.1 c.in_err-refuse.ensures (simp (← c.is_big.ensures, c.in_err-refuse.ensures.0))
+unfolding tests refusals test seat_of
+returns-in_err-refuse c t out =
+    at_exit _ _ t out _ _ _ _ c.from_residual.ensures.1 c.in_err-refuse.ensures (grind (arith, common_steps))
 
-pub returns-in_err-refuse-2 : goal.returns-in_err-refuse-2
-unfolding tests refusals test
-returns-in_err-refuse-2 c t out =
-    at_exit _ _ t out _ _ _ _ c.from_residual-in_err-refuse-2.ensures.1 c.in_err-refuse-2.ensures
-    (simp (← c.is_big.ensures, c.in_ok-refuse.ensures, ← c.seat_of.ensures, c.in_err-refuse-2.ensures.0))
-
-pub returns : goal.returns
-unfolding tests refusals test effected effect
-returns c t out =
-    by_effect _ _ t out
-    (simp (← c.is_big.ensures, c.in_ok-refuse.ensures, ← c.seat_of.ensures, c.in_ok-refuse-2.ensures))
-    _
-    (simp (c.done.ensures, c.free_place_of.ensures))
+pub returns-in_err-active : goal.returns-in_err-active
+unfolding tests refusals test seat_of
+returns-in_err-active c t out =
+    at_exit _ _ t out _ _ _ _ c.from_residual-in_err-active.ensures.1 c.in_err-active.ensures (grind (arith, common_steps))

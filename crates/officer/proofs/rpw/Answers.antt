@@ -1,8 +1,16 @@
-use Rattle.rules.proofs.Laws.{by_refusal, by_effect}
+use Rattle.std.proofs.Common.{arith}
+use Rattle.std.proofs.lemmas.Grind.{common_steps}
+use Rattle.rules.specs.Commands.{tests, refusals}
+use Rattle.rules.specs.Refusals.{test}
+use Rattle.rules.proofs.Laws.{at_exit}
 use Rattle.officer.proofs.rpw.Goals as goal
 
-pub returns-then-n-ne0 : goal.returns-then-n-ne0
-returns-then-n-ne0 c out = by_refusal _ _ _ out _ (c.rpw_refusal-n.ensures out) c.if-n-ne0.true _ c.refused.ensures
+pub returns-in_err-refuse : goal.returns-in_err-refuse
+unfolding tests refusals test
+returns-in_err-refuse c out =
+    at_exit _ _ _ out _ _ _ _ c.from_residual.ensures.1 c.in_err-refuse.ensures (grind (arith, common_steps))
 
-pub returns : goal.returns
-returns c out = by_effect _ _ _ out _ (c.rpw_refusal-n.ensures out) c.if-n-ne0.false _ (c.rpw_effect.ensures out)
+pub returns-in_err-refuse-2 : goal.returns-in_err-refuse-2
+unfolding tests refusals test
+returns-in_err-refuse-2 c out =
+    at_exit _ _ _ out _ _ _ _ c.from_residual-in_err-refuse-2.ensures.1 c.in_err-refuse-2.ensures (grind (arith, common_steps))

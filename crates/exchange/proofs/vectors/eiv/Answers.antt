@@ -1,8 +1,22 @@
-use Rattle.rules.proofs.Laws.{by_refusal, by_effect}
+use Rattle.std.proofs.Common.{arith}
+use Rattle.std.proofs.lemmas.Grind.{common_steps}
+use Rattle.rules.specs.Commands.{tests, refusals}
+use Rattle.rules.specs.Refusals.{test}
+use Rattle.rules.specs.World.{seat_of}
+use Rattle.rules.proofs.Laws.{at_exit}
 use Rattle.exchange.proofs.vectors.eiv.Goals as goal
 
-pub returns-then-n-ne0 : goal.returns-then-n-ne0
-returns-then-n-ne0 c t out = by_refusal _ _ t out _ (c.eiv_refusal-n.ensures t out) c.if-n-ne0.true _ c.refused.ensures
+pub returns-in_err-refuse : goal.returns-in_err-refuse
+unfolding tests refusals test seat_of
+returns-in_err-refuse c t out =
+    at_exit _ _ t out _ _ _ _ c.from_residual.ensures.1 c.in_err-refuse.ensures (grind (arith, common_steps))
 
-pub returns : goal.returns
-returns c t out = by_effect _ _ t out _ (c.eiv_refusal-n.ensures t out) c.if-n-ne0.false _ (c.eiv_effect.ensures t out)
+pub returns-in_err-holdings : goal.returns-in_err-holdings
+unfolding tests refusals test seat_of
+returns-in_err-holdings c t out =
+    at_exit _ _ t out _ _ _ _ c.from_residual-in_err-holdings.ensures.1 c.in_err-holdings.ensures (grind (arith, common_steps))
+
+pub returns-in_err-key : goal.returns-in_err-key
+unfolding tests refusals test seat_of
+returns-in_err-key c t out =
+    at_exit _ _ t out _ _ _ _ c.from_residual-in_err-key.ensures.1 c.in_err-key.ensures (grind (arith, common_steps))
