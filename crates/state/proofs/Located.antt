@@ -17,8 +17,8 @@ stored x ps (Some i) = set ps i x
 abbrev pub free : Place → Bool
 free p = not p.taken
 
-position_cons : (f : Place → Bool) (p : Place) (ps : List Place) → position f (p ∷ ps) ≡ cond (f p) (Some 0) (option_map suc (position f ps))
-position_cons f p ps = by (f p) (position_or_len f ps) (length ps)
+pub position_cons : {X : Type 0} (f : X → Bool) (x : X) (xs : List X) → position f (x ∷ xs) ≡ cond (f x) (Some 0) (option_map suc (position f xs))
+position_cons f x xs = by (f x) (position_or_len f xs) (length xs)
   where
     by : (b : Bool) (m n : ℕ)
         → cond (ltb (cond (not b) (1 + m) 0) (suc n)) (Some (cond (not b) (1 + m) 0)) None ≡ cond b (Some 0) (option_map suc (cond (ltb m n) (Some m) None))

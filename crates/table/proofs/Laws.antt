@@ -1,37 +1,33 @@
--- What the loops over passwords keep.
-use mathlib.Core.Path.{◌≡◌, sym, ap, ap₂, ◌∙◌}
-use mathlib.Core.Bool.{Bool, true, false, cond}
-use mathlib.Core.List.{◌∷◌, ◌++◌, append_assoc}
-use Prim.Native.Nat.{ℕ, suc, ◌+◌, ◌-◌, ◌*◌, ◌≤◌, ◌<◌}
-use native.Mathlib.Numerals.{add-one}
-use native.Mathlib.Omega.{arith}
-use lib.ListN.{length, get_or, take, drop, length-append, length-drop, take-append-drop, drop_of_length-le}
-use lib.Seq.{drop-cons, drop-drop, take-add, take_at, drop_at, length-take-le}
-use borrow.Author.Tests.{eq-eqb, ne_eqb}
+-- Passwords compared, and what the loop over the entries keeps.
+use Rattle.std.specs.Prelude.{◌≡◌, refl, Bool, true, false, cond, Option, None, Some, ◌&&◌, [], ◌∷◌, ◌++◌, ℕ, suc, ◌+◌, ◌-◌, ◌*◌, ◌≤◌, ◌<◌, eqb, length, take, drop}
+use Rattle.std.specs.Option.{option_eq}
+use Rattle.std.specs.Cmp.Lexicographic.{pointwise}
+use Rattle.std.proofs.Common.{sym, ap, ap₂, ◌∙◌, append_assoc, append-nil, lit≤, arith, length-append, length-drop, take-append-drop, drop_of_length-le, drop-drop, take_all, take_at, drop_at, length-take-le}
 use Rattle.cipher.specs.Cipher.{deciphered}
 use Rattle.cipher.proofs.Promise.{enciphered_octets}
 use Rattle.keys.specs.Keys.{notarized}
 use Rattle.state.specs.State.{Bytes}
 use Rattle.table.specs.Entries.{id_of}
-use Rattle.table.specs.Passwords.{big, same, sealed, moved_entry, moved_in}
+use Rattle.table.specs.Passwords.{big, same, sealed, authentic, moved_entry, moved_in}
+use Rattle.table.proofs.Located.{take_take, id_first, kept_first}
 
 -- ---- two runs of bytes
 
-module _ (a b : Bytes) (i : ℕ) (h : i < length a) (k : i < length b) where
-  both_first : (P : Bytes → Bytes → Bool) → P (drop i a) (drop i b) ≡ P (get_or a i 0 ∷ drop (suc i) a) (get_or b i 0 ∷ drop (suc i) b)
-  both_first P = ap₂ P (drop-cons a i 0 h) (drop-cons b i 0 k)
-
-  pub same_step : get_or a i 0 ≡ get_or b i 0 → same (drop i a) (drop i b) ≡ same (drop (i + 1) a) (drop (i + 1) b)
-  unfolding same
-  same_step e = both_first same ∙ ap (λ (t : Bool). cond t (same (drop (suc i) a) (drop (suc i) b)) false) (eq-eqb _ _ e) ∙ rw add-one
-
-  pub same_differ : (get_or a i 0 ≡ get_or b i 0 → ⊥) → same (drop i a) (drop i b) ≡ false
-  unfolding same
-  same_differ n = both_first same ∙ ap (λ (t : Bool). cond t (same (drop (suc i) a) (drop (suc i) b)) false) (ne_eqb _ _ n)
-
-pub same_end : (a b : Bytes) (i : ℕ) → length a ≤ i → length b ≤ i → same (drop i a) (drop i b) ≡ true
+pub same_is : (a b : Bytes) → pointwise eqb a b ≡ same a b
 unfolding same
-same_end a b i h k = ap₂ same (drop_of_length-le a h) (drop_of_length-le b k)
+same_is [] [] = refl
+same_is [] (y ∷ b) = refl
+same_is (x ∷ a) [] = refl
+same_is (x ∷ a) (y ∷ b) = rw (same_is a b) (chosen (eqb x y))
+  where
+    chosen : (t : Bool) → (t && same a b) ≡ cond t (same a b) false
+    chosen true = refl
+    chosen false = refl
+
+pub authentic_is : (k : Bytes) (u : ℕ) (password : Bytes) (o : Option Bytes) → option_eq (pointwise eqb) o (Some (sealed k u password)) ≡ authentic k u password o
+unfolding authentic
+authentic_is k u password None = refl
+authentic_is k u password (Some b) = same_is b (sealed k u password)
 
 -- ---- an entry moved
 
@@ -39,33 +35,25 @@ pub sealed_eight : (k : Bytes) (u : ℕ) (p : Bytes) → length (sealed k u p) �
 unfolding sealed
 sealed_eight k u p = (enciphered_octets (notarized k u u) p).eight
 
-module _ (a c t : Bytes) (o : ℕ) (l : o + 12 ≤ length t) where
+module _ (a c e : Bytes) (l : length e ≡ 12) where
   -- a free entry, or one that matches nobody, stays
-  pub move_other : big (id_of (drop o t)) ≡ true → t ≡ take o t ++ (moved_entry a c (drop o t) ++ drop (o + 12) t)
+  pub entry_stays : big (id_of e) ≡ true → e ≡ moved_entry a c e
   unfolding moved_entry
-  move_other e =
-      sym (take-append-drop o t)
-      ∙ ap (λ (r : Bytes). take o t ++ r)
-      (sym (take-append-drop 12 (drop o t))
-      ∙ ap₂ (λ (x y : Bytes). x ++ y) (take-add 4 8 (drop o t)) (drop-drop 12 o t)
-      ∙ ap (λ (x : Bool). (take 4 (drop o t) ++ cond x (take 8 (drop 4 (drop o t))) (sealed c (id_of (drop o t)) (deciphered (notarized a (id_of (drop o t)) (id_of (drop o t))) (take 8 (drop 4 (drop o t)))))) ++ drop (o + 12) t) (sym e))
+  entry_stays h = rw (h, take_all 8 (drop 4 e) (omega (arith, length-drop 4 e))) (sym (take-append-drop 4 e))
 
-  pub move_user : (t' b : Bytes) → big (id_of (drop o t)) ≡ false
-      → b ≡ sealed c (id_of (drop o t)) (deciphered (notarized a (id_of (drop o t)) (id_of (drop o t))) (take 8 (drop (o + 4) t)))
-      → t' ≡ take (o + 4) t ++ (b ++ drop (o + 4 + length b) t)
-      → t' ≡ take o t ++ (moved_entry a c (drop o t) ++ drop (o + 12) t)
+  pub entry_moves : (e' b : Bytes) → big (id_of e) ≡ false
+      → b ≡ sealed c (id_of e) (deciphered (notarized a (id_of e) (id_of e)) (take 8 (drop 4 e)))
+      → e' ≡ take 4 e ++ (b ++ drop (4 + length b) e) → e' ≡ moved_entry a c e
   unfolding moved_entry
-  move_user t' b e s h =
+  entry_moves e' b h s q =
       let n : length b ≡ 8 = ap length s ∙ sealed_eight _ _ _ in
-      let m : o + 4 + length b ≡ o + 12 = omega arith in
-      h
-      ∙ ap₂ (λ (x : Bytes) (y : ℕ). x ++ (b ++ drop y t)) (take-add o 4 t) m
-      ∙ append_assoc (take o t) (take 4 (drop o t)) (b ++ drop (o + 12) t)
-      ∙ ap (λ (r : Bytes). take o t ++ r)
-      (sym (append_assoc (take 4 (drop o t)) b (drop (o + 12) t))
-      ∙ ap (λ (r : Bytes). (take 4 (drop o t) ++ r) ++ drop (o + 12) t)
-      (s ∙ ap (λ (r : Bytes). sealed c (id_of (drop o t)) (deciphered (notarized a (id_of (drop o t)) (id_of (drop o t))) (take 8 r))) (sym (drop-drop 4 o t))
-      ∙ ap (λ (x : Bool). cond x (take 8 (drop 4 (drop o t))) (sealed c (id_of (drop o t)) (deciphered (notarized a (id_of (drop o t)) (id_of (drop o t))) (take 8 (drop 4 (drop o t)))))) (sym e)))
+      let z : drop (4 + length b) e ≡ [] = drop_of_length-le e (omega arith) in
+      q ∙ rw (h, z, append-nil) (ap (λ (r : Bytes). take 4 e ++ r) s)
+
+-- what moves an entry reads its first twelve bytes
+pub moved_first : (a c s : Bytes) → moved_entry a c (take 12 s) ≡ moved_entry a c s
+unfolding moved_entry
+moved_first a c s = rw (take_take 4 12 s (lit≤ tt), id_first s, kept_first s)
 
 -- ---- the loop over the entries
 
@@ -78,16 +66,19 @@ unfolding moved_entry
 moved_twelve a c s h = length-append (take 4 s) _ ∙ ap₂ (λ (x y : ℕ). x + y) (length-take-le 4 s (omega arith)) (moved_eight (big (id_of s)) s c _ (id_of s) h)
 
 module _ (a c t : Bytes) (n k : ℕ) (h : k < n) (l : k * 12 + 12 ≤ length t) where
-  pub move_step : (t' : Bytes) → t' ≡ take (k * 12) t ++ (moved_entry a c (drop (k * 12) t) ++ drop (k * 12 + 12) t)
+  pub move_step : (t' e : Bytes) → length e ≡ 12 → e ≡ moved_entry a c (take 12 (drop (k * 12) t)) → t' ≡ take (k * 12) t ++ (e ++ drop (k * 12 + length e) t)
       → take ((k + 1) * 12) t' ++ moved_in (n - (k + 1)) a c (drop ((k + 1) * 12) t') ≡ take (k * 12) t ++ moved_in (n - k) a c (drop (k * 12) t)
   unfolding moved_in
-  move_step t' e =
+  move_step t' e w i j =
+      let f : e ≡ moved_entry a c (drop (k * 12) t) = i ∙ moved_first a c (drop (k * 12) t) in
+      let q : length (moved_entry a c (drop (k * 12) t)) ≡ 12 = ap length (sym f) ∙ w in
+      let d : t' ≡ take (k * 12) t ++ (moved_entry a c (drop (k * 12) t) ++ drop (k * 12 + 12) t) =
+      j ∙ ap₂ (λ (x : Bytes) (y : ℕ). take (k * 12) t ++ (x ++ drop (k * 12 + y) t)) f w in
       let o : (k + 1) * 12 ≡ k * 12 + 12 = omega arith in
       let m : n - k ≡ suc (n - (k + 1)) = omega arith in
-      let q : length (moved_entry a c (drop (k * 12) t)) ≡ 12 = moved_twelve a c (drop (k * 12) t) (omega (arith, length-drop (k * 12) t)) in
       let p : length (take (k * 12) t ++ moved_entry a c (drop (k * 12) t)) ≡ k * 12 + 12 =
       length-append (take (k * 12) t) (moved_entry a c (drop (k * 12) t)) ∙ ap₂ (λ (x y : ℕ). x + y) (length-take-le (k * 12) t (omega arith)) q in
-      let s : t' ≡ (take (k * 12) t ++ moved_entry a c (drop (k * 12) t)) ++ drop (k * 12 + 12) t = e ∙ sym (append_assoc (take (k * 12) t) (moved_entry a c (drop (k * 12) t)) (drop (k * 12 + 12) t)) in
+      let s : t' ≡ (take (k * 12) t ++ moved_entry a c (drop (k * 12) t)) ++ drop (k * 12 + 12) t = d ∙ sym (append_assoc (take (k * 12) t) (moved_entry a c (drop (k * 12) t)) (drop (k * 12 + 12) t)) in
       ap (λ (i : ℕ). take i t' ++ moved_in (n - (k + 1)) a c (drop i t')) o
       ∙ ap₂ (λ (x y : Bytes). x ++ moved_in (n - (k + 1)) a c y)
       (ap (take (k * 12 + 12)) s ∙ take_at (take (k * 12) t ++ moved_entry a c (drop (k * 12) t)) (drop (k * 12 + 12) t) (k * 12 + 12) p)

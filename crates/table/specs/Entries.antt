@@ -1,6 +1,6 @@
 -- The password table: entries of 12 bytes, a four-byte identifier, high byte first, and eight bytes.
-use Rattle.std.specs.Prelude.{Bool, true, false, cond, ◌++◌, ℕ, zero, suc, ◌/◌, ◌%◌, eqb, leb, length, take, drop}
-use Rattle.std.proofs.Math.Option.{Option, none, some}
+use Rattle.std.specs.Prelude.{Bool, false, cond, Option, None, Some, is_some, List, ◌++◌, ℕ, zero, suc, ◌*◌, ◌/◌, ◌%◌, eqb, leb, length, take, drop}
+use Rattle.std.specs.Simd.{first_chunks}
 use Rattle.ground.specs.Rows.{row, digits}
 use Rattle.state.specs.State.{Bytes}
 
@@ -12,18 +12,26 @@ fits n = cond (eqb (n % 12) 0) (leb n 49152) false
 unfoldable pub id_of : Bytes → ℕ
 id_of t = row 256 0 (take 4 t)
 
+-- the identifier of entry k
+abbrev pub id_at : Bytes → ℕ → ℕ
+id_at t k = id_of (drop (k * 12) t)
+
 -- four bytes FF mark a free entry
 abbrev pub free_id : ℕ
 free_id = 4294967295
 
-abbrev pub is_some : {A : Type 0} → Option A → Bool
-is_some none = false
-is_some (some a) = true
+-- the table as a list of entries
+abbrev pub entries : Bytes → List Bytes
+entries t = first_chunks 12 (length t / 12) t
+
+-- the entry is u's
+abbrev pub is_of : ℕ → Bytes → Bool
+is_of u e = eqb u (id_of e)
 
 -- the eight bytes of u's entry among the first n: the first matching entry counts
 unfoldable pub entry_in : ℕ → ℕ → Bytes → Option Bytes
-entry_in zero u t = none
-entry_in (suc n) u t = cond (eqb u (id_of t)) (some (take 8 (drop 4 t))) (entry_in n u (drop 12 t))
+entry_in zero u t = None
+entry_in (suc n) u t = cond (eqb u (id_of t)) (Some (take 8 (drop 4 t))) (entry_in n u (drop 12 t))
 
 unfoldable pub entry_of : ℕ → Bytes → Option Bytes
 entry_of u t = entry_in (length t / 12) u t

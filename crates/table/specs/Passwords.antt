@@ -1,6 +1,5 @@
 -- Passwords: how an entry keeps one, who is authenticated, and the move from an old key to the current one.
-use Rattle.std.specs.Prelude.{Bool, true, false, cond, [], ◌∷◌, ◌++◌, ℕ, zero, suc, ◌/◌, eqb, ltb, length, take, drop}
-use Rattle.std.proofs.Math.Option.{Option, none, some}
+use Rattle.std.specs.Prelude.{Bool, true, false, cond, Option, None, Some, [], ◌∷◌, ◌++◌, ℕ, zero, suc, ◌/◌, eqb, ltb, length, take, drop}
 use Rattle.cipher.specs.Cipher.{enciphered, deciphered}
 use Rattle.keys.specs.Keys.{notarized}
 use Rattle.state.specs.State.{Bytes}
@@ -23,8 +22,8 @@ same (x ∷ xs) (y ∷ ys) = cond (eqb x y) (same xs ys) false
 
 -- a user with no entry, and one with another password, are not
 unfoldable pub authentic : Bytes → ℕ → Bytes → Option Bytes → Bool
-authentic k u password none = false
-authentic k u password (some b) = same b (sealed k u password)
+authentic k u password None = false
+authentic k u password (Some b) = same b (sealed k u password)
 
 -- the first entry of t, moved from the key a to the key k where it is a user's
 unfoldable pub moved_entry : Bytes → Bytes → Bytes → Bytes

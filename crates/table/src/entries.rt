@@ -1,10 +1,7 @@
 // Entries: a four-byte identifier, high byte first, and eight bytes.
-ghost use Rattle.std.specs.Prelude.{◌≡◌, ◌++◌, ◌+◌, ◌*◌, ◌/◌, ◌≤◌, ◌<◌, length, take, drop};
+ghost use Rattle.std.specs.Prelude.{◌≡◌, ◌++◌, ◌+◌, ◌*◌, ◌/◌, ◌≤◌, length, take, drop, is_some, position, IfSome};
 ghost use Rattle.ground.specs.Rows.{digits};
-ghost use Rattle.table.specs.Entries.{fits, id_of, is_some, entry_of, enter, enrol_in, enrolled};
-ghost use Rattle.table.specs.Located.{Entered};
-
-use state::Found;
+ghost use Rattle.table.specs.Entries.{fits, id_of, entries, is_of, entry_of, enter, enrol_in, enrolled};
 
 // Four bytes FF mark a free entry.
 pub const FREE: u32 = 4294967295;
@@ -12,85 +9,61 @@ pub const FREE: u32 = 4294967295;
 pub fn is_fit(length: usize) -> bool
     ensures { result ≡ fits length }
 {
-    if length % 12 == 0 {
-        length <= 49152
-    } else {
-        false
-    }
-}
-
-fn wide(x: u8) -> u32
-    ensures { (result ≡ x) × (result < 256) }
-{
-    x as u32
-}
-
-fn number(a: u8, b: u8, c: u8, d: u8) -> u32
-    ensures { result ≡ a * 16777216 + b * 65536 + c * 256 + d }
-{
-    wide(a) * 16777216 + wide(b) * 65536 + wide(c) * 256 + wide(d)
+    length % 12 == 0 && length <= 49152
 }
 
 pub fn id_bytes(user: u32) -> [u8; 4]
     ensures { result ≡ digits 256 4 user }
 {
-    [
-        (user / 16777216 % 256) as u8,
-        (user / 65536 % 256) as u8,
-        (user / 256 % 256) as u8,
-        (user % 256) as u8,
-    ]
+    user.to_be_bytes()
 }
 
-// The identifier of entry `k`.
-pub(crate) fn id_at(t: &[u8], k: usize) -> u32
-    requires { k * 12 + 12 ≤ length t.now }
-    ensures { result ≡ id_of (drop (k * 12) t.now) }
+pub(crate) fn id_of(entry: [u8; 12]) -> u32
+    ensures { result ≡ id_of entry }
 {
-    let i = k * 12;
-    number(t[i], t[i + 1], t[i + 2], t[i + 3])
+    let [a, b, c, d, ..] = entry;
+    u32::from_be_bytes([a, b, c, d])
 }
 
 // The first entry of the user.
-pub(crate) fn entry_of(t: &[u8], user: u32) -> Found
-    ensures { Entered user t.now result }
+fn index_of(t: &[u8], user: u32) -> Option<usize>
+    ensures found { result ≡ position (is_of user) (entries t.now) }
+    ensures inside { IfSome result (λ k. k * 12 + 12 ≤ length t.now) }
 {
-    let n = t.len() / 12;
-    let mut k: usize = 0;
-    while k < n {
-        if id_at(t, k) == user {
-            return Found::At(k);
-        }
-        k += 1;
-    }
-    Found::Nothing
+    t.as_chunks::<12>()
+        .0
+        .iter()
+        .position(|entry| id_of(*entry) == user)
+}
+
+pub(crate) fn entry_at(t: &[u8], k: usize) -> [u8; 12]
+    requires { k * 12 + 12 ≤ length t.now }
+    ensures { result ≡ take 12 (drop (k * 12) t.now) }
+{
+    t.as_chunks::<12>().0[k]
+}
+
+// What an entry keeps: its last eight bytes.
+pub(crate) fn kept_in(entry: [u8; 12]) -> [u8; 8]
+    ensures { result ≡ take 8 (drop 4 entry) }
+{
+    let mut kept = [0; 8];
+    kept.copy_from_slice(&entry[4..]);
+    kept
+}
+
+// What the user's first entry keeps.
+pub(crate) fn entry_of(t: &[u8], user: u32) -> Option<[u8; 8]>
+    ensures { result ≡ entry_of user t.now }
+{
+    let k = index_of(t, user)?;
+    Some(kept_in(entry_at(t, k)))
 }
 
 pub fn has_entry(t: &[u8], user: u32) -> bool
     ensures { result ≡ is_some (entry_of user t.now) }
 {
-    let found = entry_of(t, user);
-    match found {
-        Found::At(k) => true,
-        Found::Nothing => false,
-    }
-}
-
-// Eight bytes from `at` on.
-pub(crate) fn eight_at(t: &[u8], at: usize) -> [u8; 8]
-    requires { at + 8 ≤ length t.now }
-    ensures { result ≡ take 8 (drop at t.now) }
-{
-    [
-        t[at],
-        t[at + 1],
-        t[at + 2],
-        t[at + 3],
-        t[at + 4],
-        t[at + 5],
-        t[at + 6],
-        t[at + 7],
-    ]
+    entry_of(t, user).is_some()
 }
 
 // The part over the bytes from `at` on.
@@ -98,35 +71,33 @@ pub(crate) fn put_at(t: &mut [u8], at: usize, part: &[u8])
     requires { at + length part.now ≤ length t.old }
     ensures { t.new ≡ take at t.old ++ (part.now ++ drop (at + length part.now) t.old) }
 {
-    let end = at + part.len();
-    t[at..end].copy_from_slice(part);
+    t[at..at + part.len()].copy_from_slice(part);
 }
 
 // The user's entry, where there is one, gets the eight bytes.
 pub fn set_entry(t: &mut [u8], user: u32, b: [u8; 8])
     ensures { t.new ≡ enter user b t.old }
 {
-    let found = entry_of(&t[..], user);
-    match found {
-        Found::At(k) => {
-            put_at(&mut t[..], k * 12 + 4, &b);
-        }
-        Found::Nothing => {}
+    if let Some(k) = index_of(t, user) {
+        put_at(t, k * 12 + 4, &b);
     }
+}
+
+fn entry_for(user: u32, b: [u8; 8]) -> [u8; 12]
+    ensures { result ≡ digits 256 4 user ++ b }
+{
+    let mut entry = [0; 12];
+    put_at(&mut entry, 0, &id_bytes(user));
+    put_at(&mut entry, 4, &b);
+    entry
 }
 
 // The first free entry, where there is one, becomes the user's.
 fn take_free(t: &mut [u8], user: u32, b: [u8; 8])
     ensures { t.new ≡ enrol_in (length t.old / 12) user b t.old }
 {
-    let found = entry_of(&t[..], FREE);
-    match found {
-        Found::At(k) => {
-            let id = id_bytes(user);
-            put_at(&mut t[..], k * 12, &id);
-            put_at(&mut t[..], k * 12 + 4, &b);
-        }
-        Found::Nothing => {}
+    if let Some(k) = index_of(t, FREE) {
+        put_at(t, k * 12, &entry_for(user, b));
     }
 }
 
@@ -134,9 +105,9 @@ fn take_free(t: &mut [u8], user: u32, b: [u8; 8])
 pub fn enrol(t: &mut [u8], user: u32, b: [u8; 8])
     ensures { t.new ≡ enrolled user b t.old }
 {
-    if has_entry(&t[..], user) {
-        set_entry(&mut t[..], user, b);
+    if has_entry(t, user) {
+        set_entry(t, user, b);
     } else {
-        take_free(&mut t[..], user, b);
+        take_free(t, user, b);
     }
 }

@@ -1,31 +1,17 @@
 // Passwords: sealed in their entries, compared, and moved to a new key.
-ghost use Rattle.std.specs.Prelude.{◌≡◌, ◌++◌, ◌+◌, ◌*◌, ◌≤◌, length, take, drop};
+ghost use Rattle.std.specs.Prelude.{◌≡◌};
 ghost use Rattle.table.specs.Entries.{entry_of};
-ghost use Rattle.table.specs.Passwords.{big, same, sealed, authentic, moved_entry, moved};
+ghost use Rattle.table.specs.Passwords.{big, sealed, authentic, moved_entry, moved};
 
-use crate::entries::{eight_at, entry_of, id_at, put_at};
+use crate::entries::{entry_at, entry_of, id_of, kept_in, put_at};
 use cipher::block::{seal, unseal};
 use cipher::keys::InterchangeKey;
 use keys::notarize;
-use state::Found;
 
 pub fn is_big(user: u32) -> bool
     ensures { result ≡ big user }
 {
     268435455 < user
-}
-
-pub fn is_same(a: [u8; 8], b: [u8; 8]) -> bool
-    ensures { result ≡ same a b }
-{
-    let mut i: usize = 0;
-    while i < 8 {
-        if a[i] != b[i] {
-            return false;
-        }
-        i += 1;
-    }
-    true
 }
 
 // A password as its entry keeps it: sealed with the pair (user, user).
@@ -39,38 +25,29 @@ pub fn seal_password(key: InterchangeKey, user: u32, password: [u8; 8]) -> [u8; 
 pub fn is_authentic(t: &[u8], key: InterchangeKey, user: u32, password: [u8; 8]) -> bool
     ensures { result ≡ authentic key.0 user password (entry_of user t.now) }
 {
-    let found = entry_of(t, user);
-    match found {
-        Found::At(k) => {
-            let kept = eight_at(t, k * 12 + 4);
-            is_same(kept, seal_password(key, user, password))
-        }
-        Found::Nothing => false,
-    }
+    entry_of(t, user) == Some(seal_password(key, user, password))
 }
 
-fn move_entry(t: &mut [u8], k: usize, old: InterchangeKey, current: InterchangeKey)
-    requires { k * 12 + 12 ≤ length t.old }
-    ensures { t.new ≡ take (k * 12) t.old ++ (moved_entry old.0 current.0 (drop (k * 12) t.old) ++ drop (k * 12 + 12) t.old) }
+// The entry with its password under the current key; a free entry and one that matches nobody stay.
+fn moved_entry(entry: [u8; 12], old: InterchangeKey, current: InterchangeKey) -> [u8; 12]
+    ensures { result ≡ moved_entry old.0 current.0 entry }
 {
-    let user = id_at(&t[..], k);
+    let user = id_of(entry);
     if is_big(user) {
-        return;
+        return entry;
     }
-    let kept = eight_at(&t[..], k * 12 + 4);
-    let password = unseal(notarize(old, user, user), kept);
-    let b = seal_password(current, user, password);
-    put_at(&mut t[..], k * 12 + 4, &b);
+    let password = unseal(notarize(old, user, user), kept_in(entry));
+    let mut moved = entry;
+    put_at(&mut moved, 4, &seal_password(current, user, password));
+    moved
 }
 
-// Every user's entry from the old key to the current one; free entries and those that match nobody stay.
+// Every entry from the old key to the current one.
 pub fn move_all(t: &mut [u8], old: InterchangeKey, current: InterchangeKey)
     ensures { t.new ≡ moved old.0 current.0 t.old }
 {
-    let n = t.len() / 12;
-    let mut k: usize = 0;
-    while k < n {
-        move_entry(&mut t[..], k, old, current);
-        k += 1;
+    for k in 0..t.len() / 12 {
+        let entry = moved_entry(entry_at(t, k), old, current);
+        put_at(t, k * 12, &entry);
     }
 }

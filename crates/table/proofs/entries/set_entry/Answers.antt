@@ -1,30 +1,11 @@
-use mathlib.Core.Path.{◌≡◌, ap}
-use mathlib.Core.List.{◌++◌}
-use Prim.Native.Nat.{ℕ, ◌+◌, ◌*◌}
-use lib.ListN.{length, take, drop}
-use mathlib.Core.Path.{sym, ◌∙◌}
-use Rattle.table.specs.Located.{entry_inside, enter_found, enter_missing}
-use native.Mathlib.Omega.{arith}
-use borrow.Author.Rules.{rules}
+use Rattle.std.proofs.Common.{rules, ◌≡◌, length}
+use Rattle.table.proofs.Located.{enter_found, enter_missing}
 use Rattle.table.proofs.entries.set_entry.Goals as goal
 
-pub overflow_mul-k : goal.overflow_mul-k
-overflow_mul-k c = let l = entry_inside _ _ _ _ c.entry_of-found.ensures c.in-At.is in record { fits = omega arith }
-
-pub overflow_add-k : goal.overflow_add-k
-overflow_add-k c = let l = entry_inside _ _ _ _ c.entry_of-found.ensures c.in-At.is in record { fits = omega arith }
-
-pub put_at-requires : goal.put_at-requires
-put_at-requires c = let l = entry_inside _ _ _ _ c.entry_of-found.ensures c.in-At.is in
+pub returns-in-Some : goal.returns-in-Some
+returns-in-Some c =
     let e : length c.args.b ≡ 8 = search rules in
-    omega arith
+    enter_found _ _ _ _ c.index_of.ensures.found _ c.in-Some.is _ e c.put_at.ensures
 
-pub returns-in-At : goal.returns-in-At
-returns-in-At c = let a = c.args in
-    let e : length a.b ≡ 8 = search rules in
-    c.put_at.ensures
-    ∙ ap (λ (n : ℕ). take (c.in-At.k * 12 + 4) a.t.now ++ (a.b ++ drop (c.in-At.k * 12 + 4 + n) a.t.now)) e
-    ∙ sym (enter_found a.user a.b a.t.now _ _ c.entry_of-found.ensures c.in-At.is)
-
-pub returns-in-Nothing : goal.returns-in-Nothing
-returns-in-Nothing c = sym (enter_missing c.args.user c.args.b c.args.t.now _ c.entry_of-found.ensures c.in-Nothing.is)
+pub returns-in_default : goal.returns-in_default
+returns-in_default c = enter_missing _ c.args.b _ _ c.index_of.ensures.found c.in_default.is

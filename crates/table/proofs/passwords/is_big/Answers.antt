@@ -1,4 +1,4 @@
-use mathlib.Core.Path.{refl}
+use Rattle.std.proofs.Common.{refl}
 use Rattle.table.specs.Passwords.{big}
 use Rattle.table.proofs.passwords.is_big.Goals as goal
 

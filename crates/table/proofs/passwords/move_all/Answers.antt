@@ -1,27 +1,16 @@
-use native.Mathlib.Nat.{sub-zero}
-use mathlib.Core.Path.{refl, sym, ◌∙◌}
-use Prim.Native.Nat.{◌+◌, ◌*◌, ◌/◌, ◌≤◌, ◌<◌}
-use native.Mathlib.Omega.{arith}
-use lib.ListN.{length}
-use borrow.Author.Rules.{rules}
-use Rattle.table.specs.Passwords.{moved}
+use Rattle.std.proofs.Common.{rules, sym, ap, ◌∙◌, ◌≡◌, ◌≤◌, ◌+◌, ◌*◌, length, arith}
+use Rattle.table.specs.Passwords.{moved, moved_entry}
 use Rattle.table.proofs.Laws.{move_step, move_end}
 use Rattle.table.proofs.passwords.move_all.Goals as goal
 
-pub loop-k-init : goal.loop-k-init
-loop-k-init c = (refl, search rules, refl, rw sub-zero)
-
 pub loop-k-preserved : goal.loop-k-preserved
 loop-k-preserved c =
-    let h : c.loop-k.k < length c.args.t.now / 12 = omega arith in
-    let r : c.loop-k.k * 12 + 12 ≤ length c.loop-k.t = omega arith in (
-      c.loop-k.invariant.0,
-      omega arith,
-      c.move_entry.auto.t ∙ c.loop-k.invariant.2,
-      move_step _ _ c.loop-k.t _ c.loop-k.k h r _ c.move_entry.ensures ∙ c.loop-k.invariant.3,
-    )
+    let l : c.loop-k.k * 12 + 12 ≤ length c.loop-k.t = search rules in
+    let e : length c.moved_entry-entry.result ≡ 12 = search rules in
+    move_step c.args.old.0 c.args.current.0 c.loop-k.t _ _ c.loop-k-test.true l _ _ e
+    (c.moved_entry-entry.ensures ∙ ap (moved_entry c.args.old.0 c.args.current.0) c.entry_at.ensures) c.put_at.ensures
+    ∙ c.loop-k.invariant
 
 pub returns : goal.returns
 unfolding moved
-returns c =
-    sym (move_end _ _ c.loop-k.t _ c.loop-k.k (omega arith)) ∙ c.loop-k.invariant.3
+returns c = sym (move_end _ _ c.loop-k.t _ _ c.loop-k-test.false) ∙ c.loop-k.invariant
