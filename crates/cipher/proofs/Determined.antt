@@ -1,7 +1,5 @@
 -- Any two outcomes that the contract of a public operation allows are identical.
-use mathlib.Core.Path.{◌≡◌, sym, ap, ◌∙◌}
-use mathlib.Core.List.{List}
-use Prim.Native.Nat.{ℕ}
+use Rattle.std.proofs.Common.{◌≡◌, sym, ap, ◌∙◌, List, ℕ}
 use Rattle.cipher.specs.declared.modes.Mode.{Mode}
 use Rattle.cipher.specs.declared.modes.Applied.{Applied}
 use Rattle.cipher.specs.declared.fixity.Fixity.{Fixity}

@@ -1,12 +1,9 @@
 -- A text of bytes as blocks, and what the loops over a text keep.
-use mathlib.Core.Path.{◌≡◌, sym, ap, ap₂, ◌∙◌}
-use mathlib.Core.Logic.{⊎_elim}
-use mathlib.Core.List.{List, [], ◌∷◌, ◌++◌, append_assoc}
-use Prim.Native.Nat.{ℕ, suc, ◌+◌, ◌-◌, ◌/◌, ◌%◌, ◌<◌, ◌≤◌}
-use native.Mathlib.Nat.{eq-zero-or-pos}
-use native.Mathlib.Omega.{arith}
-use lib.ListN.{length, take, drop, replicate, length-drop, length-append, length-replicate, replicate-append-replicate, drop_of_length-le, take-append-drop}
-use lib.Seq.{sets, drop-drop, take_all, take-append-le, drop-append-le}
+use Rattle.std.proofs.Common.{◌≡◌, sym, ap, ap₂, ◌∙◌, ⊎_elim, List, [], ◌∷◌, ◌++◌, append_assoc, ℕ, suc, ◌+◌, ◌-◌, ◌/◌, ◌%◌, ◌<◌, ◌≤◌, eq-zero-or-pos}
+use Rattle.std.proofs.Common.{arith, length, take, drop, replicate, length-drop, length-append, drop_of_length-le, take-append-drop, drop-drop}
+use Rattle.std.proofs.Common.{take_all}
+use Rattle.std.proofs.lemmas.List.{length-replicate, replicate-append-replicate, take-append-le, drop-append-le}
+use Rattle.std.proofs.lemmas.List.Edits.{sets}
 use Rattle.ground.specs.Rows.{digits}
 use Rattle.ground.specs.Lists.{take-sets, drop-sets, padded, padded-take, padded_fill}
 use Rattle.fips81.specs.declared.Turn.{Turn}

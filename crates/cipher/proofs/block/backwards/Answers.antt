@@ -1,5 +1,4 @@
-use mathlib.Core.Path.{◌∙◌, ap, ap₂}
-use mathlib.Core.List.{reverse}
+use Rattle.std.proofs.Common.{◌∙◌, ap, ap₂, reverse}
 use Rattle.cipher.specs.Bits.{bytes}
 use Rattle.engine.specs.Fips46.{computed, KS, decipher}
 use Rattle.fips81.specs.Keyed.{deciphered}

@@ -1,4 +1,4 @@
-use mathlib.Core.Path.{◌∙◌, ap, ap₂}
+use Rattle.std.proofs.Common.{◌∙◌, ap, ap₂}
 use Rattle.cipher.specs.Bits.{bytes}
 use Rattle.engine.specs.Fips46.{computed, KS, encipher}
 use Rattle.fips81.specs.Keyed.{enciphered}

@@ -1,6 +1,4 @@
-use mathlib.Core.Path.{◌≡◌}
-use Prim.Native.Nat.{◌%◌, ◌-◌, ◌≤◌}
-use lib.ListN.{length, drop}
+use Rattle.std.proofs.Common.{◌≡◌, ◌%◌, ◌-◌, ◌≤◌, length, drop}
 use Rattle.engine.specs.Fips46.{computed}
 use Rattle.fips81.specs.Fips81.{chain, left, blocks, filled}
 use Rattle.cipher.proofs.fixity.chained.Given as goal

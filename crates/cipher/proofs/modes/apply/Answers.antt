@@ -1,7 +1,4 @@
-use mathlib.Core.Path.{◌≡◌, sym, ap, ap₂, ◌∙◌}
-use mathlib.Core.List.{List, ◌++◌}
-use Prim.Native.Nat.{ℕ, ◌%◌, ◌≤◌}
-use lib.ListN.{length, drop}
+use Rattle.std.proofs.Common.{◌≡◌, sym, ap, ap₂, ◌∙◌, List, ◌++◌, ℕ, ◌%◌, ◌≤◌, length, drop}
 use Rattle.cipher.specs.declared.modes.Verdict.TheVariants.{Done}
 use Rattle.cipher.specs.Bits.{word, bytes}
 use Rattle.engine.specs.Fips46.{computed}

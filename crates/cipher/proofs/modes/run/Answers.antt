@@ -1,9 +1,4 @@
-use mathlib.Core.Path.{◌≡◌, sym, ap, ◌∙◌}
-use mathlib.Core.List.{List, ◌++◌, append-nil}
-use Prim.Native.Nat.{ℕ, ◌+◌, ◌≤◌}
-use native.Mathlib.Omega.{arith}
-use lib.ListN.{length, take, drop}
-use borrow.Author.Rules.{rules}
+use Rattle.std.proofs.Common.{◌≡◌, sym, ap, ◌∙◌, List, ◌++◌, append-nil, ℕ, ◌+◌, ◌≤◌, arith, length, take, drop, rules}
 use Rattle.ground.specs.Lists.{padded}
 use Rattle.fips81.specs.declared.Turn.{Turn}
 use Rattle.cipher.specs.declared.modes.Mode.{Mode}

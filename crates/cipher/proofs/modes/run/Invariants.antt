@@ -1,7 +1,4 @@
-use mathlib.Core.Path.{◌≡◌}
-use mathlib.Core.List.{List, ◌++◌}
-use Prim.Native.Nat.{ℕ, ◌%◌, ◌-◌, ◌≤◌}
-use lib.ListN.{length, take, drop}
+use Rattle.std.proofs.Common.{◌≡◌, List, ◌++◌, ℕ, ◌%◌, ◌-◌, ◌≤◌, length, take, drop}
 use Rattle.fips81.specs.declared.Turn.{Turn}
 use Rattle.cipher.specs.declared.modes.Mode.{Mode}
 use Rattle.engine.specs.Fips46.{computed}

@@ -1,6 +1,4 @@
-use mathlib.Core.Path.{◌∙◌, ap}
-use mathlib.Core.List.{List}
-use Prim.Native.Nat.{ℕ}
+use Rattle.std.proofs.Common.{◌∙◌, ap, List, ℕ}
 use Rattle.ground.specs.Lists.{padded, rest_all}
 use Rattle.cipher.specs.Bits.{word}
 use Rattle.cipher.proofs.words.block_at.Goals as goal

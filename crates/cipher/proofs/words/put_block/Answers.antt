@@ -1,12 +1,6 @@
-use native.Mathlib.Nat.{add-zero}
-use native.Mathlib.Omega.{arith}
-use mathlib.Core.Path.{◌≡◌, sym, ap, ◌∙◌}
-use Prim.Native.Nat.{ℕ, ◌≤◌, ◌<◌}
-use lib.ListN.{length}
+use Rattle.std.proofs.Common.{add-zero, arith, ◌≡◌, sym, ap, ◌∙◌, ℕ, ◌≤◌, ◌<◌, length, length-set, rules}
+use Rattle.std.proofs.lemmas.List.Edits.{sets}
 use Rattle.ground.specs.Lists.{sets-step, sets_end}
-use lib.ListN.{length-set}
-use lib.Seq.{sets}
-use borrow.Author.Rules.{rules}
 use Rattle.cipher.proofs.words.put_block.Goals as goal
 
 pub loop-i-init : goal.loop-i-init
