@@ -1,11 +1,8 @@
 -- Texts of bytes and lists of words are the same thing: cutting and joining are inverse, and go through `++`.
-use mathlib.Core.Path.{◌≡◌, refl, sym, ap, ap₂, ◌∙◌}
-use mathlib.Core.List.{List, [], ◌∷◌, ◌++◌, append_assoc, append-nil}
-use Prim.Native.Nat.{ℕ, zero, suc, ◌+◌, ◌-◌, ◌*◌, ◌/◌, ◌%◌, ◌^◌, ◌<◌, ◌≤◌}
-use native.Mathlib.Omega.{arith}
-use lib.Dec.{lit<}
-use lib.ListN.{length, take, drop, length-drop, length-append, length-take, take-append-drop}
-use lib.Seq.{take-append-le, drop-append-le, length-take-le, drop-append-add}
+use Rattle.std.proofs.Common.{◌≡◌, refl, sym, ap, ap₂, ◌∙◌, List, [], ◌∷◌, ◌++◌, append_assoc, append-nil, ℕ, zero, suc, ◌+◌, ◌-◌, ◌*◌, ◌/◌, ◌%◌, ◌^◌}
+use Rattle.std.proofs.Common.{◌<◌, ◌≤◌, arith, lit<, length, take, drop, length-drop, length-append, length-take, take-append-drop, length-take-le}
+use Rattle.std.proofs.Math.Seq.{drop-append-add}
+use Rattle.std.proofs.lemmas.List.{take-append-le, drop-append-le}
 use Rattle.ground.specs.Rows.{digits, row_lt, shorter, digits-row, row-digits, digits_below, digits-length}
 use Rattle.ground.specs.Lists.{Below, below_take, below_drop, below_append, none}
 use Rattle.cipher.specs.Bits.{word, bytes}

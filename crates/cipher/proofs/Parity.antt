@@ -1,19 +1,14 @@
 -- The last bit of each byte of a key plays no part.
-use mathlib.Core.Path.{◌≡◌, refl, sym, ap, ap₂, ◌∙◌}
-use mathlib.Core.List.{List, [], ◌∷◌, map}
-use mathlib.Core.Bool.{Bool, true}
-use Prim.Native.Nat.{ℕ, zero, suc, ◌+◌, ◌-◌, ◌*◌, ◌/◌, ◌%◌, ◌^◌, ◌≤◌, ◌<◌}
-use native.Mathlib.Nat.{div-div-eq-div-mul, pow-suc}
-use native.Mathlib.Omega.{arith}
-use lib.Dec.{T, leb, leb→le}
-use lib.Pow.{pow-add, field, mod-mod-pow}
-use lib.ListN.{length, get_or}
+use Rattle.std.proofs.Common.{◌≡◌, refl, sym, ap, ap₂, ◌∙◌, List, [], ◌∷◌, map, Bool, true, ℕ, zero, suc, ◌+◌, ◌-◌, ◌*◌, ◌/◌, ◌%◌, ◌^◌, ◌≤◌, ◌<◌}
+use Rattle.std.proofs.lemmas.List.{get_or-map}
+use Rattle.std.proofs.Common.{pow-suc, arith, T, leb, leb→le, pow-add, length, get_or}
+use Rattle.std.proofs.Math.Nat.{div-div-eq-div-mul}
+use Rattle.std.proofs.Math.Pow.{field, mod-mod-pow}
 use Rattle.ground.specs.Tests.{both, both_left, both_right}
 use Rattle.ground.specs.Rows.{row, row-digit}
 use Rattle.engine.specs.Bits.{bit, word}
 use Rattle.engine.specs.Tables.{PC-1, shifts}
 use Rattle.engine.specs.Fips46.{KS, scheduled}
-use Rattle.engine.proofs.Permutations.{map_at}
 use Rattle.cipher.specs.Cipher.{Octets}
 
 pow256 : (n : ℕ) → 256 ^ n ≡ 2 ^ (n * 8)
@@ -44,7 +39,7 @@ key-bit k o n h₁ h₂ h₃ =
     ∙ ap (λ (m : ℕ). m % 2) (sym (div-div-eq-div-mul (word k) (256 ^ (8 - suc ((n - 1) / 8))) (2 ^ (7 - (n - 1) % 8))))
     ∙ low_bit (word k / 256 ^ (8 - suc ((n - 1) / 8))) ((n - 1) % 8) s
     ∙ ap (λ (m : ℕ). m / 2 / 2 ^ (6 - (n - 1) % 8) % 2) (rw o.eight at (row-digit 256 0 k o.small ((n - 1) / 8) i))
-    ∙ ap (λ (m : ℕ). m / 2 ^ (6 - (n - 1) % 8) % 2) (sym (map_at (λ b. b / 2) k ((n - 1) / 8) i))
+    ∙ ap (λ (m : ℕ). m / 2 ^ (6 - (n - 1) % 8) % 2) (sym (get_or-map (λ b. b / 2) k ((n - 1) / 8) 0 0 i))
 
 -- each entry names a bit of a key that is not the last of its byte
 abbrev keyed : List ℕ → Bool

@@ -1,12 +1,11 @@
 -- The cipher's promise: the laws that a layer above may use. What the cipher computes stays shut; the words around it (verdicts, which mode undoes which)
 -- are open.
-use mathlib.Core.Path.{◌≡◌, refl, sym, ap, ◌∙◌}
-use mathlib.Core.List.{List, [], ◌∷◌, ◌++◌, map, reverse, reverse-reverse, append-nil}
-use Prim.Native.Nat.{ℕ, ◌-◌, ◌/◌, ◌%◌, ◌^◌, ◌<◌, ◌≤◌}
-use native.Mathlib.Omega.{arith}
-use lib.Bits.{bit_xor, xor_lt}
-use lib.ListN.{length, replicate}
-use borrow.Author.Tests.{eq-eqb, ne_eqb, le-leb, lt-leb}
+use Rattle.std.proofs.Common.{Result, Ok, Err}
+use Rattle.std.proofs.Common.{◌≡◌, refl, sym, ap, ◌∙◌, List, [], ◌∷◌, ◌++◌, map, reverse, append-nil, ℕ, ◌-◌, ◌/◌, ◌%◌, ◌^◌, ◌<◌, ◌≤◌, arith, bit_xor}
+use Rattle.std.proofs.Common.{length, replicate, eq-eqb, ne_eqb, le-leb}
+use Rattle.std.proofs.lemmas.Bool.{lt-leb}
+use Rattle.std.proofs.lemmas.List.{reverse-reverse}
+use Rattle.std.proofs.lemmas.Nat.{xor_lt}
 use Rattle.ground.specs.Lists.{none}
 use Rattle.engine.specs.Fips46.{computed, encipher, decipher, KS}
 use Rattle.engine.proofs.Undoing.{computed_lt, computed_back}
@@ -17,10 +16,12 @@ use Rattle.fips81.proofs.Turns.{Undoes, given-length, given_join, left_join, giv
 use Rattle.fips81.proofs.Turns.{last, left-given, left-taken, left_still, feedback_64, unfeedback_64, turn_bounded, turn_undone}
 use Rattle.cipher.specs.declared.modes.Mode.{Mode}
 use Rattle.cipher.specs.declared.modes.Mode.TheVariants.{Ecbe, Ecbd, Cbce, Cbcd, Cfbe, Cfbd}
-use Rattle.cipher.specs.declared.modes.Verdict.TheVariants.{Done, BadLength, NoRoom}
+use Rattle.cipher.specs.declared.modes.Misfit.{Misfit}
+use Rattle.cipher.specs.declared.modes.Misfit.TheVariants.{BadLength, NoRoom}
+use Rattle.cipher.specs.declared.keys.Vector.{Vector}
 use Rattle.cipher.specs.Bits.{word, bytes}
 use Rattle.cipher.specs.Cipher.{Octets, Whole, Way, ECB, CBC, CFB, way_of, direction_of, enciphering, deciphering, mode_text, mode_vector, vector_after}
-use Rattle.cipher.specs.Cipher.{filled, last_block, fixity, onto, applied, ruled, fitting, valued}
+use Rattle.cipher.specs.Cipher.{filled, last_block, fixity, onto, Outcome, outcome_of, applied, ruled, fitting, Value, value_of, valued}
 use Rattle.cipher.proofs.Parity.{KS_parity}
 use Rattle.cipher.proofs.Blocks.{word_lt, bytes_word, word_bytes, bytes_octets, blocks_below, blocks-length, blocks-append, last-joined}
 use Rattle.cipher.proofs.Blocks.{joined-blocks, joined_length, blocks-joined, joined_whole, joined-append}
@@ -289,22 +290,41 @@ fixity_AB k v = fixity-zeros k v (0x41 ∷ 0x42 ∷ []) 1 (omega arith)
 
 module _ (m : Mode) (k v t out : List ℕ) where
   pub applied-done : length t % 8 ≡ 0 → length t ≤ length out
-      → applied m k v t out ≡ record { verdict = Done; vector = mode_vector m k v t; output = onto (mode_text m k v t) out }
+      → applied m k v t out ≡ record { verdict = Ok tt; vector = mode_vector m k v t; output = onto (mode_text m k v t) out }
   unfolding applied ruled fitting
   applied-done h r = simp (eq-eqb _ _ h, le-leb _ _ r)
 
-  pub applied-length : (length t % 8 ≡ 0 → ⊥) → applied m k v t out ≡ record { verdict = BadLength; vector = v; output = out }
+  pub applied-length : (length t % 8 ≡ 0 → ⊥) → applied m k v t out ≡ record { verdict = Err BadLength; vector = v; output = out }
   unfolding applied ruled fitting
   applied-length h = simp (ne_eqb _ _ h)
 
-  pub applied_room : length t % 8 ≡ 0 → length out < length t → applied m k v t out ≡ record { verdict = NoRoom; vector = v; output = out }
+  pub applied_room : length t % 8 ≡ 0 → length out < length t → applied m k v t out ≡ record { verdict = Err NoRoom; vector = v; output = out }
   unfolding applied ruled fitting
   applied_room h r = simp (eq-eqb _ _ h, lt-leb _ _ r)
 
-pub valued-done : (k v t : List ℕ) → (length t ≡ 0 → ⊥) → valued k v t ≡ record { verdict = Done; value = fixity k v t }
+pub valued-done : (k v t : List ℕ) → (length t ≡ 0 → ⊥) → valued k v t ≡ record { verdict = Ok tt; value = fixity k v t }
 unfolding valued
 valued-done k v t h = simp (ne_eqb _ _ h)
 
-pub valued_none : (k v t : List ℕ) → length t ≡ 0 → valued k v t ≡ record { verdict = BadLength; value = replicate 8 0 }
+pub valued_none : (k v t : List ℕ) → length t ≡ 0 → valued k v t ≡ record { verdict = Err BadLength; value = replicate 8 0 }
 unfolding valued
 valued_none k v t h = simp (eq-eqb _ _ h)
+
+-- ---- the same, of an answer that a contract allows: with whole blocks and room for them, or with a record of some bytes, it is never a refusal
+
+pub apply_done : (m : Mode) (k v t out : List ℕ) {r : Result Vector Misfit} {o : List ℕ} → outcome_of r v o ≡ applied m k v t out
+    → length t % 8 ≡ 0 → length t ≤ length out → (r ≡ Ok (record { 0 = mode_vector m k v t })) × (o ≡ onto (mode_text m k v t) out)
+apply_done m k v t out {r} {o} e h n = done r (e ∙ applied-done m k v t out h n)
+  where
+    done : (r : Result Vector Misfit)
+        → outcome_of r v o ≡ record { verdict = Ok tt; vector = mode_vector m k v t; output = onto (mode_text m k v t) out }
+        → (r ≡ Ok (record { 0 = mode_vector m k v t })) × (o ≡ onto (mode_text m k v t) out)
+    done (Ok w) q = (ap (λ (x : Outcome). Ok (record { 0 = x.vector })) q, ap (λ (x : Outcome). x.output) q)
+    done (Err x) q = absurd (cc (ap (λ (x : Outcome). x.verdict) q))
+
+pub fixity_done : (k v t : List ℕ) {r : Result (List ℕ) Misfit} → value_of r ≡ valued k v t → (length t ≡ 0 → ⊥) → r ≡ Ok (fixity k v t)
+fixity_done k v t {r} e n = done r (e ∙ valued-done k v t n)
+  where
+    done : (r : Result (List ℕ) Misfit) → value_of r ≡ record { verdict = Ok tt; value = fixity k v t } → r ≡ Ok (fixity k v t)
+    done (Ok b) q = ap (λ (x : Value). Ok x.value) q
+    done (Err x) q = absurd (cc (ap (λ (x : Value). x.verdict) q))

@@ -1,17 +1,16 @@
 -- A text of bytes as blocks, and what the loops over a text keep.
-use mathlib.Core.Path.{◌≡◌, sym, ap, ap₂, ◌∙◌}
-use mathlib.Core.Logic.{⊎_elim}
-use mathlib.Core.List.{List, [], ◌∷◌, ◌++◌, append_assoc}
-use Prim.Native.Nat.{ℕ, suc, ◌+◌, ◌-◌, ◌/◌, ◌%◌, ◌<◌, ◌≤◌}
-use native.Mathlib.Nat.{eq-zero-or-pos}
-use native.Mathlib.Omega.{arith}
-use lib.ListN.{length, take, drop, replicate, length-drop, length-append, length-replicate, replicate-append-replicate, drop_of_length-le, take-append-drop}
-use lib.Seq.{sets, drop-drop, take_all, take-append-le, drop-append-le}
-use Rattle.ground.specs.Rows.{digits}
-use Rattle.ground.specs.Lists.{take-sets, drop-sets, padded, padded-take, padded_fill}
+use Rattle.std.proofs.Common.{◌≡◌, refl, sym, ap, ap₂, ◌∙◌, ⊎_elim, List, [], ◌∷◌, ◌++◌, map, append_assoc, append-nil, ℕ, zero, suc, min}
+use Rattle.std.proofs.Common.{◌+◌, ◌-◌, ◌*◌, ◌/◌, ◌%◌, ◌<◌, ◌≤◌, arith, length, get_or, take, drop, replicate, bit_xor, length-drop, length-append}
+use Rattle.std.proofs.Common.{drop_of_length-le, take-append-drop, drop-drop, take_all, take_at, drop_at}
+use Rattle.std.proofs.lemmas.Bool.{cases_lt}
+use Rattle.std.proofs.lemmas.List.{length-replicate, replicate-append-replicate, drop_more, drop_all, nil_from_length}
+use Rattle.std.proofs.lemmas.Slice.{take-put_mid, drop-put_mid}
+use Rattle.std.specs.Simd.{first_chunks}
+use borrow.Rule.Slice.PartMut.{put_mid}
+use Rattle.ground.specs.Lists.{padded, padded-length, padded_all, padded_fill}
 use Rattle.fips81.specs.declared.Turn.{Turn}
 use Rattle.cipher.specs.Bits.{word, bytes}
-use Rattle.fips81.specs.Fips81.{given, left, cut, blocks, joined, filled}
+use Rattle.fips81.specs.Fips81.{chain, given, left, cut, blocks, joined, filled}
 
 -- ---- the first block, and the rest
 
@@ -32,44 +31,62 @@ blocks_one b h =
     blocks-first b (omega arith)
     ∙ ap₂ (λ (c r : List ℕ). word c ∷ r) (take_all 8 b (omega arith)) (ap blocks (drop_of_length-le b {i = 8} (omega arith)) ∙ blocks_none [] (omega arith))
 
--- from i on, where a block is read with its filling
-blocks_at : (t : List ℕ) (i : ℕ) → i + 8 ≤ length t → blocks (drop i t) ≡ word (padded 8 (drop i t)) ∷ blocks (drop (i + 8) t)
-blocks_at t i h =
-    let k : 8 ≤ length (drop i t) = omega (arith, length-drop i t) in
-    blocks-first (drop i t) k ∙ ap₂ (λ (b r : List ℕ). word b ∷ blocks r) (sym (padded-take 8 (drop i t) k)) (drop-drop 8 i t)
+-- a block, and more
+pub blocks_front : (x q : List ℕ) → length x ≡ 8 → blocks (x ++ q) ≡ word x ∷ blocks q
+blocks_front x q h =
+    blocks-first (x ++ q) (omega (arith, length-append x q))
+    ∙ ap₂ (λ (b r : List ℕ). word b ∷ blocks r) (take_at x q 8 h) (drop_at x q 8 h)
 
--- ---- the loop over a text: from i on, a turn on the block that is read there
+-- ---- the loop over a text, its blocks b one after another, from block i on
 
-module _ (turn : ℕ → ℕ → Turn) (v : ℕ) (t : List ℕ) (i : ℕ) where
-  pub left_step : (r : Turn) → r ≡ turn v (word (padded 8 (drop i t))) → i + 8 ≤ length t
-      → left turn r.leaves (blocks (drop (i + 8) t)) ≡ left turn v (blocks (drop i t))
+chunks-cut : (n : ℕ) (t : List ℕ) → map word (first_chunks 8 n t) ≡ cut n t
+unfolding cut
+chunks-cut zero t = refl
+chunks-cut (suc n) t = ap (λ (l : List ℕ). word (take 8 t) ∷ l) (chunks-cut n (drop 8 t))
+
+-- the library's chunks of eight bytes are the blocks
+pub chunks-blocks : (t : List ℕ) → map word (first_chunks 8 (length t / 8) t) ≡ blocks t
+unfolding blocks
+chunks-blocks t = chunks-cut (length t / 8) t
+
+module _ (turn : ℕ → ℕ → Turn) (v : ℕ) (b : List (List ℕ)) (i : ℕ) where
+  next : i < length b → map word (drop i b) ≡ word (get_or b i []) ∷ map word (drop (i + 1) b)
+  next h = ap (map word) (drop_more b i [] h)
+
+  pub left_step : (r : Turn) → r ≡ turn v (word (get_or b i [])) → i < length b
+      → left turn r.leaves (map word (drop (i + 1) b)) ≡ left turn v (map word (drop i b))
   unfolding left
-  left_step r e h = ap (λ (z : Turn). left turn z.leaves (blocks (drop (i + 8) t))) e ∙ sym (ap (left turn v) (blocks_at t i h))
+  left_step r e h = ap (λ (z : Turn). left turn z.leaves (map word (drop (i + 1) b))) e ∙ sym (ap (left turn v) (next h))
 
-  pub left_end : length t ≤ i → left turn v (blocks (drop i t)) ≡ v
+  pub left_end : length b ≤ i → left turn v (map word (drop i b)) ≡ v
   unfolding left
-  left_end h = ap (left turn v) (ap blocks (drop_of_length-le t h) ∙ blocks_none [] (omega arith))
+  left_end h = ap (λ (l : List (List ℕ)). left turn v (map word l)) (drop_all i b h)
 
-  -- the block that is given is written at i
-  pub given-step : (r : Turn) → r ≡ turn v (word (padded 8 (drop i t))) → i + 8 ≤ length t → (out o : List ℕ) → i + 8 ≤ length out → o ≡ sets out i (bytes r.gives)
-      → take (i + 8) o ++ joined (given turn r.leaves (blocks (drop (i + 8) t))) ≡ take i out ++ joined (given turn v (blocks (drop i t)))
-  unfolding given joined digits
-  given-step r e h out o k s =
-      ap (λ (l : List ℕ). l ++ joined (given turn r.leaves (blocks (drop (i + 8) t)))) (ap (take (i + 8)) s ∙ take-sets out (bytes r.gives) i k)
-      ∙ append_assoc (take i out) (bytes r.gives) _
-      ∙ ap (λ (l : List ℕ). take i out ++ l)
-      (ap (λ (z : Turn). bytes z.gives ++ joined (given turn z.leaves (blocks (drop (i + 8) t)))) e
-      ∙ sym (ap (λ (l : List ℕ). joined (given turn v l)) (blocks_at t i h)))
-
-  pub given_end : length t ≤ i → joined (given turn v (blocks (drop i t))) ≡ []
+  -- the block that is given, as the bytes y, is written at block i
+  pub given-step : (r : Turn) → r ≡ turn v (word (get_or b i [])) → i < length b
+      → (k : ℕ) (out y : List ℕ) → y ≡ bytes r.gives → length y ≡ 8 → 8 * i ≤ length out
+      → take (8 * (i + 1)) (put_mid (8 * i) k out y) ++ joined (given turn r.leaves (map word (drop (i + 1) b)))
+      ≡ take (8 * i) out ++ joined (given turn v (map word (drop i b)))
   unfolding given joined
-  given_end h = ap (λ (l : List ℕ). joined (given turn v l)) (ap blocks (drop_of_length-le t h) ∙ blocks_none [] (omega arith))
+  given-step r e h k out y g n l =
+      ap (λ (w : List ℕ). w ++ joined (given turn r.leaves (map word (drop (i + 1) b)))) (take-put_mid (8 * i) k out y (8 * (i + 1)) (omega arith) l)
+      ∙ append_assoc (take (8 * i) out) y _
+      ∙ ap (λ (w : List ℕ). take (8 * i) out ++ w)
+      (ap (λ (w : List ℕ). w ++ joined (given turn r.leaves (map word (drop (i + 1) b)))) g
+      ∙ ap (λ (z : Turn). bytes z.gives ++ joined (given turn z.leaves (map word (drop (i + 1) b)))) e
+      ∙ sym (ap (λ (w : List ℕ). joined (given turn v w)) (next h)))
+
+  pub given_end : length b ≤ i → joined (given turn v (map word (drop i b))) ≡ []
+  unfolding given joined
+  given_end h = ap (λ (l : List (List ℕ)). joined (given turn v (map word l))) (drop_all i b h)
 
 -- what stands after the block is not touched
-pub rest_step : (out₀ out o : List ℕ) (i y : ℕ) → i + 8 ≤ length out → o ≡ sets out i (bytes y) → drop i out ≡ drop i out₀ → drop (i + 8) o ≡ drop (i + 8) out₀
-unfolding digits
-rest_step out₀ out o i y h s e =
-    ap (drop (i + 8)) s ∙ drop-sets out (bytes y) i h ∙ sym (drop-drop 8 i out) ∙ ap (drop 8) e ∙ drop-drop 8 i out₀
+pub rest_step : (i k : ℕ) (out₀ out y : List ℕ) → k ≡ 8 → length y ≡ 8 → 8 * i ≤ length out → drop (8 * i) out ≡ drop (8 * i) out₀
+    → drop (8 * (i + 1)) (put_mid (8 * i) k out y) ≡ drop (8 * (i + 1)) out₀
+rest_step i k out₀ out y f n h e =
+    let m : 8 * (i + 1) ≡ 8 * i + 8 = omega arith in
+    drop-put_mid (8 * i) k out y (8 * (i + 1)) (omega arith) h (n ∙ sym f)
+    ∙ rw m (sym (drop-drop 8 (8 * i) out) ∙ ap (drop 8) e ∙ drop-drop 8 (8 * i) out₀)
 
 -- at the end what was written stands before what was there
 pub written : (out out₀ w : List ℕ) (i : ℕ) → take i out ≡ w → drop i out ≡ drop i out₀ → out ≡ w ++ drop i out₀
@@ -90,21 +107,45 @@ filled-zeros t n h =
     append_assoc t (replicate n 0) _
     ∙ ap (λ (z : List ℕ). t ++ z) (replicate-append-replicate n ((8 - length (t ++ replicate n 0) % 8) % 8) 0 ∙ ap (λ (m : ℕ). replicate m 0) e)
 
--- a block read with its filling is a block of the filled record
-pub filled_at : (t : List ℕ) (i : ℕ) → i % 8 ≡ 0 → i < length t → padded 8 (drop i t) ≡ padded 8 (drop i (filled t))
+filled_whole : (x r : List ℕ) → length x ≡ 8 → filled (x ++ r) ≡ x ++ filled r
 unfolding filled
-filled_at t i m h =
-    let z : List ℕ = replicate ((8 - length t % 8) % 8) 0 in
-    let d : List ℕ = drop i t in
-    let l : length d ≡ length t - i = length-drop i t in
-    let s : drop i (t ++ z) ≡ d ++ z = drop-append-le i t z (omega arith) in
-    let a : length (d ++ z) ≡ length d + (8 - length t % 8) % 8 = length-append d z ∙ ap (λ (n : ℕ). length d + n) (length-replicate ((8 - length t % 8) % 8) 0) in
-    ⊎_elim
-    (λ e.
-    let k : 8 ≤ length d = omega arith in
-    padded-take 8 d k ∙ sym (take-append-le 8 d z k) ∙ sym (padded-take 8 (d ++ z) (omega arith)) ∙ ap (padded 8) (sym s))
-    (λ p.
-    let q : (8 - length t % 8) % 8 ≡ 8 - length d = omega arith in
-    padded_fill 8 d (omega arith) ∙ ap (λ (n : ℕ). d ++ replicate n 0) (sym q)
-    ∙ sym (take_all 8 (d ++ z) (omega arith)) ∙ sym (padded-take 8 (d ++ z) (omega arith)) ∙ ap (padded 8) (sym s))
-    (eq-zero-or-pos (8 - length d))
+filled_whole x r h =
+    let l : length (x ++ r) ≡ 8 + length r = length-append x r ∙ ap (λ (n : ℕ). n + length r) h in
+    let e : (8 - length (x ++ r) % 8) % 8 ≡ (8 - length r % 8) % 8 = omega arith in
+    append_assoc x r _ ∙ ap (λ (n : ℕ). x ++ (r ++ replicate n 0)) e
+
+filled_short : (x : List ℕ) → 0 < length x → length x < 8 → filled x ≡ padded 8 x
+unfolding filled
+filled_short x p h =
+    let e : (8 - length x % 8) % 8 ≡ 8 - length x = omega arith in
+    ap (λ (n : ℕ). x ++ replicate n 0) e ∙ sym (padded_fill 8 x (omega arith))
+
+filled_none : (t : List ℕ) → length t ≡ 0 → blocks (filled t) ≡ []
+filled_none t h = blocks_none (filled t) (omega (arith, filled-length t))
+
+-- a chunk x of a record is, with its filling, a block of the filled record
+filled_first : (t x r : List ℕ) → t ≡ x ++ r → length x ≡ min 8 (length t) → 0 < length t
+    → blocks (filled t) ≡ word (padded 8 x) ∷ blocks (filled r)
+filled_first t x r e l p =
+    let n : length t ≡ length x + length r = ap length e ∙ length-append x r in
+    ap (λ (z : List ℕ). blocks (filled z)) e
+    ∙ ⊎_elim
+    (λ s.
+    let z : r ≡ [] = nil_from_length r (omega arith) in
+    rw (z, append-nil x, filled_short x (omega arith) (omega arith), filled_none [] refl) (blocks_one (padded 8 x) (padded-length 8 x)))
+    (λ s.
+    let w : length x ≡ 8 = omega arith in
+    rw (filled_whole x r w, padded_all 8 x w) (blocks_front x (filled r) w))
+    (cases_lt (length t) 8)
+
+module _ (g : ℕ → ℕ) (v : ℕ) (t : List ℕ) where
+  pub chained_step : (x r : List ℕ) (n y : ℕ) → n ≡ 8 → t ≡ x ++ r → length x ≡ min n (length t) → 0 < length t
+      → y ≡ g (bit_xor (word (padded 8 x)) v) → left (chain g) y (blocks (filled r)) ≡ left (chain g) v (blocks (filled t))
+  unfolding left chain
+  chained_step x r n y k e l p q =
+      ap (λ (z : ℕ). left (chain g) z (blocks (filled r))) q
+      ∙ sym (ap (left (chain g) v) (filled_first t x r e (l ∙ ap (λ (m : ℕ). min m (length t)) k) p))
+
+  pub chained_end : length t ≡ 0 → left (chain g) v (blocks (filled t)) ≡ v
+  unfolding left
+  chained_end h = ap (left (chain g) v) (filled_none t h)

@@ -1,13 +1,12 @@
 -- What the contracts of this crate cite. What the cipher computes (`enciphered`, `deciphered`, the text and the vector of a mode) is passed on, shut, from `fips81`,
 -- a crate that no layer above lists: a layer above knows it by the laws of `proofs/Promise.antt` alone.
-use Rattle.std.specs.Prelude.{◌≡◌, cond, List, ◌++◌, ℕ, ◌%◌, eqb, leb, length, drop, replicate}
+use Rattle.std.specs.Prelude.{◌≡◌, cond, List, ◌++◌, ℕ, ◌%◌, eqb, leb, length, drop, replicate, Result, Ok, Err}
 use Rattle.ground.specs.Lists.{Below}
 use Rattle.cipher.specs.declared.modes.Mode.{Mode}
 use Rattle.cipher.specs.declared.modes.Mode.TheVariants.{Ecbe, Ecbd, Cbce, Cbcd, Cfbe, Cfbd}
-use Rattle.cipher.specs.declared.modes.Applied.{Applied}
-use Rattle.cipher.specs.declared.modes.Verdict.{Verdict}
-use Rattle.cipher.specs.declared.modes.Verdict.TheVariants.{Done, BadLength, NoRoom}
-use Rattle.cipher.specs.declared.fixity.Fixity.{Fixity}
+use Rattle.cipher.specs.declared.modes.Misfit.{Misfit}
+use Rattle.cipher.specs.declared.modes.Misfit.TheVariants.{BadLength, NoRoom}
+use Rattle.cipher.specs.declared.keys.Vector.{Vector}
 use Rattle.fips81.specs.Fips81.{Direction, enciphers, deciphers}
 use Rattle.fips81.specs.Keyed.{text_of, vector_of}
 pub use Rattle.fips81.specs.Fips81.{Way, ECB, CBC, CFB}
@@ -73,15 +72,19 @@ vector_after Cfbd v t c = last_block t
 
 -- ---- what the operations answer and leave
 
+-- done, or why not
+abbrev pub Verdict : Type 0
+Verdict = Result (Unit {0}) Misfit
+
 -- the page's numbers. Its limits of 1 and 32768 bytes are the commands', and are tested there, before a mode is asked
 unfoldable pub number : Verdict → ℕ
-number Done = 0
-number BadLength = 12
-number NoRoom = 13
+number (Ok d) = 0
+number (Err BadLength) = 12
+number (Err NoRoom) = 13
 
 -- a mode wants whole blocks, and room for them
 unfoldable pub fitting : List ℕ → List ℕ → Verdict
-fitting t out = cond (eqb (length t % 8) 0) (cond (leb (length t) (length out)) Done NoRoom) BadLength
+fitting t out = cond (eqb (length t % 8) 0) (cond (leb (length t) (length out)) (Ok tt) (Err NoRoom)) (Err BadLength)
 
 -- the bytes t over the first bytes of out
 abbrev pub onto : List ℕ → List ℕ → List ℕ
@@ -92,14 +95,14 @@ pub record Outcome : Type 0 where
   pub vector : List ℕ
   pub output : List ℕ
 
--- the answer of `apply`, with what the output holds afterwards
-abbrev pub outcome_of : Applied → List ℕ → Outcome
-outcome_of r out = record { verdict = r.verdict; vector = r.vector.0; output = out }
+-- the answer of `apply` from the vector v, with what the output holds afterwards: where it refuses, v is the vector still
+abbrev pub outcome_of : Result Vector Misfit → (v out : List ℕ) → Outcome
+outcome_of (Ok w) v out = record { verdict = Ok tt; vector = w.0; output = out }
+outcome_of (Err e) v out = record { verdict = Err e; vector = v; output = out }
 
 unfoldable pub ruled : Verdict → Mode → List ℕ → List ℕ → List ℕ → List ℕ → Outcome
-ruled Done m k v t out = record { verdict = Done; vector = mode_vector m k v t; output = onto (mode_text m k v t) out }
-ruled BadLength m k v t out = record { verdict = BadLength; vector = v; output = out }
-ruled NoRoom m k v t out = record { verdict = NoRoom; vector = v; output = out }
+ruled (Ok d) m k v t out = record { verdict = Ok tt; vector = mode_vector m k v t; output = onto (mode_text m k v t) out }
+ruled (Err e) m k v t out = record { verdict = Err e; vector = v; output = out }
 
 unfoldable pub applied : Mode → List ℕ → List ℕ → List ℕ → List ℕ → Outcome
 applied m k v t out = ruled (fitting t out) m k v t out
@@ -109,9 +112,10 @@ pub record Value : Type 0 where
   pub verdict : Verdict
   pub value : List ℕ
 
--- the answer of `fixity_of`
-abbrev pub value_of : Fixity → Value
-value_of r = record { verdict = r.verdict; value = r.value }
+-- the answer of `fixity_of`: where it refuses, eight zero bytes stand for the value
+abbrev pub value_of : Result (List ℕ) Misfit → Value
+value_of (Ok b) = record { verdict = Ok tt; value = b }
+value_of (Err e) = record { verdict = Err e; value = replicate 8 0 }
 
 unfoldable pub valued : List ℕ → List ℕ → List ℕ → Value
-valued k v t = cond (eqb (length t) 0) (record { verdict = BadLength; value = replicate 8 0 }) (record { verdict = Done; value = fixity k v t })
+valued k v t = cond (eqb (length t) 0) (record { verdict = Err BadLength; value = replicate 8 0 }) (record { verdict = Ok tt; value = fixity k v t })

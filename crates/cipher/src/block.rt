@@ -5,6 +5,7 @@ ghost use Rattle.cipher.specs.Cipher.{enciphered, deciphered};
 use crate::keys::{DataKey, NotarizedKey};
 use engine::{bytes_of, compute, key_schedule, reversed, word_of};
 
+#[tactic(auto, unfolding(fips81::specs::Keyed::enciphered, engine::specs::Fips46::encipher))]
 fn forwards(key: [u8; 8], block: [u8; 8]) -> [u8; 8]
     ensures { result ≡ enciphered key block }
 {
@@ -12,6 +13,7 @@ fn forwards(key: [u8; 8], block: [u8; 8]) -> [u8; 8]
     bytes_of(compute(&keys, word_of(block)))
 }
 
+#[tactic(auto, unfolding(fips81::specs::Keyed::deciphered, engine::specs::Fips46::decipher))]
 fn backwards(key: [u8; 8], block: [u8; 8]) -> [u8; 8]
     ensures { result ≡ deciphered key block }
 {
@@ -19,31 +21,29 @@ fn backwards(key: [u8; 8], block: [u8; 8]) -> [u8; 8]
     bytes_of(compute(&keys, word_of(block)))
 }
 
+// Each twice, for the two kinds of key: by document 01 no operation takes one kind where another belongs.
+
 pub fn encipher(key: DataKey, block: [u8; 8]) -> [u8; 8]
     ensures { result ≡ enciphered key.0 block }
 {
-    let k = key.0;
-    forwards(k, block)
+    forwards(key.0, block)
 }
 
 pub fn decipher(key: DataKey, block: [u8; 8]) -> [u8; 8]
     ensures { result ≡ deciphered key.0 block }
 {
-    let k = key.0;
-    backwards(k, block)
+    backwards(key.0, block)
 }
 
 // A data key or a password, enciphered under a notarized key.
 pub fn seal(key: NotarizedKey, block: [u8; 8]) -> [u8; 8]
     ensures { result ≡ enciphered key.0 block }
 {
-    let k = key.0;
-    forwards(k, block)
+    forwards(key.0, block)
 }
 
 pub fn unseal(key: NotarizedKey, block: [u8; 8]) -> [u8; 8]
     ensures { result ≡ deciphered key.0 block }
 {
-    let k = key.0;
-    backwards(k, block)
+    backwards(key.0, block)
 }

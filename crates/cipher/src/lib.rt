@@ -7,6 +7,5 @@ pub mod block;
 pub mod fixity;
 pub mod keys;
 pub mod modes;
-mod words;
 
 pub use engine::{bytes_of, word_of};

@@ -1,3 +1,4 @@
+pub mod Bytes
 pub mod Permutations
 pub mod Loops
 pub mod Undoing

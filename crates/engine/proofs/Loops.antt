@@ -1,19 +1,11 @@
 -- What the loops of the computation and of the key schedule keep, and the values of their steps.
-use mathlib.Core.Path.{◌≡◌, refl, sym, ap, ◌∙◌}
-use mathlib.Core.List.{List, [], ◌∷◌, ◌++◌, append-nil, reverse, reverse-append}
-use Prim.Native.Nat.{ℕ, zero, suc, ◌+◌, ◌*◌, ◌/◌, ◌%◌, ◌^◌, ◌≤◌, ◌<◌}
-use native.Mathlib.Nat.{div-one}
-use native.Mathlib.Numerals.{add-one}
-use native.Mathlib.Omega.{arith}
-use lib.Bits.{bit_xor}
-use lib.ListN.{length, get_or, drop, take, set, drop_of_length-le}
-use lib.Seq.{drop-cons, take-suc, take_all}
+use Rattle.std.proofs.Common.{◌≡◌, sym, ap, ◌∙◌, List, [], ◌∷◌, ◌++◌, append-nil, ℕ, zero, suc, ◌+◌, ◌*◌, ◌/◌, ◌%◌, ◌^◌, ◌≤◌, ◌<◌}
+use Rattle.std.proofs.Common.{div-one, add-one, arith, length, get_or, drop, take, set, drop_of_length-le, drop-cons, take_all, bit_xor}
 use Rattle.engine.specs.Bits.{permuted}
 use Rattle.ground.specs.Rows.{row, digits}
-use Rattle.ground.specs.Tests.{entry}
 use Rattle.ground.specs.Lists.{put}
 use Rattle.engine.specs.Fips46.{shifted, selected, selections, substituted, rounds, scheduled, f}
-use Rattle.engine.specs.Tables.{PC-2, shifts, S1, S2, S3, S4, S5, S6, S7, S8}
+use Rattle.engine.specs.Tables.{PC-2, S1, S2, S3, S4, S5, S6, S7, S8}
 
 -- a half of the key stays one of 28 bits when it is shifted around
 pub shifted_lt : (n c : ℕ) → 1 ≤ n → n ≤ 2 → c < 2 ^ 28 → shifted n c < 2 ^ 28
@@ -50,23 +42,6 @@ scheduled-step ns c d i h = rw (add-one, drop-cons ns i 0)
 pub scheduled_end : (ns : List ℕ) (c d i : ℕ) → length ns ≤ i → scheduled (drop i ns) c d ≡ []
 unfolding scheduled
 scheduled_end ns c d i h = rw drop_of_length-le
-
-pub shift_small : (i : ℕ) → i < 16 → (1 ≤ get_or shifts i 0) × (get_or shifts i 0 ≤ 2)
-shift_small i h = entry 1 2 shifts tt i h
-
--- the first n of a list, the last of them first
-abbrev pub down : List ℕ → ℕ → List ℕ
-down xs zero = []
-down xs (suc n) = get_or xs n 0 ∷ down xs n
-
-down-reverse : (xs : List ℕ) (n : ℕ) → n ≤ length xs → down xs n ≡ reverse (take n xs)
-down-reverse xs zero h = refl
-down-reverse xs (suc n) h =
-    ap (λ (l : List ℕ). get_or xs n 0 ∷ l) (down-reverse xs n (omega arith))
-    ∙ sym (ap reverse (take-suc xs n 0 h) ∙ reverse-append (take n xs) (get_or xs n 0 ∷ []))
-
-pub reversed_is : (xs : List ℕ) (n : ℕ) → length xs ≡ n → down xs n ≡ reverse xs
-reversed_is xs n h = down-reverse xs n (omega arith) ∙ ap reverse (take_all n xs (omega arith))
 
 -- one key more is stored
 pub key_step : (ns ks : List ℕ) (c d : ℕ) {i n c' d' v : ℕ} → i < length ns → i < length ks

@@ -1,19 +1,10 @@
 -- Laws of permutations by tables: one after another is one by the composed table, and the table 1, 2, .. w changes nothing.
-use mathlib.Core.Path.{◌≡◌, refl, ap, ap₂, ◌∙◌}
-use mathlib.Core.List.{List, [], ◌∷◌, map}
-use Prim.Native.Nat.{ℕ, zero, suc, ◌+◌, ◌-◌, ◌/◌, ◌%◌, ◌^◌, ◌≤◌, ◌<◌}
-use native.Mathlib.Nat.{not-suc-le-zero, le_of_suc-le-suc, mod-lt}
-use native.Mathlib.Omega.{arith}
-use lib.Dec.{T, leb}
-use lib.ListN.{length, get_or, length-map}
+use Rattle.std.proofs.Common.{◌≡◌, refl, ap, ap₂, ◌∙◌, List, [], ◌∷◌, map, ℕ, zero, suc, ◌+◌, ◌-◌, ◌/◌, ◌%◌, ◌^◌, ◌≤◌, ◌<◌}
+use Rattle.std.proofs.Common.{mod-lt, arith, T, leb, length, get_or}
+use Rattle.std.proofs.lemmas.List.{length-map, get_or-map}
 use Rattle.ground.specs.Tests.{both, both_right, within, entry}
 use Rattle.ground.specs.Rows.{row, digits, row_lt, row-digit, row-digits}
 use Rattle.engine.specs.Bits.{bit, permuted}
-
-pub map_at : (g : ℕ → ℕ) (ns : List ℕ) (i : ℕ) → i < length ns → get_or (map g ns) i 0 ≡ g (get_or ns i 0)
-map_at g [] i h = absurd (not-suc-le-zero h)
-map_at g (n ∷ ns) zero h = refl
-map_at g (n ∷ ns) (suc i) h = map_at g ns i (le_of_suc-le-suc h)
 
 pub bit_lt : (w x n : ℕ) → bit w x n < 2
 bit_lt w x n = mod-lt (x / 2 ^ (w - n)) (omega arith)
@@ -30,7 +21,7 @@ permuted_lt w ns x = rw (length-map ns (bit w x)) at (row_lt 2 (map (bit w x) ns
 bit-permuted : (v x : ℕ) (ns : List ℕ) (i : ℕ) → i < length ns → bit (length ns) (permuted v ns x) (suc i) ≡ bit v x (get_or ns i 0)
 bit-permuted v x ns i h =
     rw (length-map ns (bit v x)) at (row-digit 2 0 (map (bit v x) ns) (bits_below v x ns) i (rw (length-map ns (bit v x)) h))
-    ∙ map_at (bit v x) ns i h
+    ∙ get_or-map (bit v x) ns i 0 0 h
 
 -- the table of a permutation by ns and then by us
 abbrev pub composed : List ℕ → List ℕ → List ℕ

@@ -1,10 +1,8 @@
 -- The computation with the keys in the other order undoes the computation.
-use mathlib.Core.Path.{◌≡◌, ap, ap₂, ◌∙◌}
-use mathlib.Core.List.{List, [], ◌∷◌, reverse, reverse_aux}
-use Prim.Native.Nat.{ℕ, ◌/◌, ◌%◌, ◌^◌, ◌<◌}
-use native.Mathlib.Omega.{arith}
-use lib.Bits.{bit_xor, xor_lt}
-use lib.Pow.{high, low, split}
+use Rattle.std.proofs.Common.{◌≡◌, ap, ap₂, ◌∙◌, List, [], ◌∷◌, reverse, ℕ, ◌/◌, ◌%◌, ◌^◌, ◌<◌, arith, bit_xor}
+use Rattle.std.proofs.Math.Pow.{high, low, split}
+use Rattle.std.proofs.lemmas.Nat.{xor_lt}
+use mathlib.Core.List.{reverse_aux}
 use Rattle.engine.specs.Bits.{permuted}
 use Rattle.engine.specs.Tables.{IP, IP⁻¹, E, P}
 use Rattle.engine.specs.Fips46.{f, substituted, rounds, computed}

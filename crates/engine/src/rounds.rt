@@ -6,7 +6,7 @@ ghost use Rattle.engine.specs.Tables.{IP, IP⁻¹};
 ghost use Rattle.engine.specs.Fips46.{selected, substituted, f, computed};
 
 use crate::tables::{E, IP, IP_INVERSE, P, S1, S2, S3, S4, S5, S6, S7, S8};
-use crate::words::{permute, wide};
+use crate::words::permute;
 
 // What the box gives for six bits: the first and the last name the row, the four between them the column.
 fn select(s: &[u8; 64], b: u64) -> u64
@@ -14,7 +14,7 @@ fn select(s: &[u8; 64], b: u64) -> u64
     ensures { (result ≡ selected s.now b) × (result < 16) }
 {
     let at = ((b / 32) * 2 + b % 2) * 16 + (b / 2) % 16;
-    wide(s[at as usize])
+    u64::from(s[at as usize])
 }
 
 fn substitute(b: u64) -> u64
@@ -60,12 +60,10 @@ pub fn compute(keys: &[u64], block: u64) -> u64
     let x = initial_permutation(block);
     let mut l = x >> 32;
     let mut r = x % 4294967296;
-    let mut i = 0;
-    while i < keys.len() {
-        let next = l ^ cipher_function(r, keys[i]);
+    for key in keys {
+        let next = l ^ cipher_function(r, *key);
         l = r;
         r = next;
-        i += 1;
     }
     inverse_permutation(r * 4294967296 + l)
 }

@@ -3,7 +3,7 @@ ghost use Rattle.std.specs.Prelude.{◌≡◌, reverse, ◌≤◌, ◌<◌, ◌^
 ghost use Rattle.engine.specs.Fips46.{shifted, KS};
 
 use crate::tables::{LEFT_SHIFTS, PC1, PC2};
-use crate::words::{permute, wide};
+use crate::words::permute;
 
 // A half of 28 bits, shifted to the left; what leaves at the left comes in at the right.
 fn left_shift(n: u64, c: u64) -> u64
@@ -20,23 +20,19 @@ pub fn key_schedule(key: u64) -> [u64; 16]
     let mut c = x >> 28;
     let mut d = x % 268435456;
     let mut keys = [0u64; 16];
-    let mut i: usize = 0;
-    while i < 16 {
-        let n = wide(LEFT_SHIFTS[i]);
+    for (i, n) in LEFT_SHIFTS.iter().enumerate() {
+        let n = u64::from(*n);
         c = left_shift(n, c);
         d = left_shift(n, d);
         keys[i] = permute(56, &PC2, c * 268435456 + d);
-        i += 1;
     }
     keys
 }
 
 // The keys in the order that deciphers.
-pub fn reversed(keys: [u64; 16]) -> [u64; 16]
+pub fn reversed(mut keys: [u64; 16]) -> [u64; 16]
     ensures { result ≡ reverse keys }
 {
-    [
-        keys[15], keys[14], keys[13], keys[12], keys[11], keys[10], keys[9], keys[8], keys[7],
-        keys[6], keys[5], keys[4], keys[3], keys[2], keys[1], keys[0],
-    ]
+    keys.reverse();
+    keys
 }

@@ -1,9 +1,6 @@
 -- Laws of the modes on units, over any cipher on words of 64 bits: joining, undoing, and the vector afterwards; then under a key.
-use Rattle.std.specs.Prelude.{◌≡◌, length, get_or}
-use Rattle.std.proofs.Math.Path.{refl, ap}
-use Rattle.std.proofs.Common.{◌∙◌, div-one, mod-lt, arith}
-use mathlib.Core.List.{List, [], ◌∷◌, ◌++◌, reverse}
-use Prim.Native.Nat.{ℕ, zero, suc, ◌+◌, ◌*◌, ◌^◌, ◌<◌}
+use Rattle.std.proofs.Common.{◌≡◌, length, get_or, refl, ap, ◌∙◌, div-one, mod-lt, arith, List, [], ◌∷◌, ◌++◌, reverse, ℕ, zero, suc, ◌+◌, ◌*◌, ◌^◌}
+use Rattle.std.proofs.Common.{◌<◌}
 use Rattle.std.proofs.Math.Arith.{digits_mod}
 use Rattle.std.specs.Int.Bits.{bit_xor, xor_lt}
 use Rattle.ground.specs.Lists.{Below}

@@ -1,40 +1,14 @@
-use mathlib.Core.Path.{◌≡◌, sym, ap, ◌∙◌}
-use mathlib.Core.List.{List}
-use Prim.Native.Nat.{ℕ, ◌+◌, ◌%◌, ◌≤◌, ◌<◌}
-use native.Mathlib.Omega.{arith}
-use lib.Bits.{bit_xor}
-use lib.ListN.{length, drop}
-use borrow.Author.Rules.{rules}
-use Rattle.ground.specs.Lists.{padded}
-use Rattle.fips81.specs.declared.Turn.{Turn}
-use Rattle.cipher.specs.Bits.{word}
+use Rattle.std.proofs.Common.{ℕ, sym, ap, ◌∙◌, bit_xor}
 use Rattle.engine.specs.Fips46.{computed}
-use Rattle.fips81.specs.Fips81.{chain, filled}
-use Rattle.cipher.proofs.Texts.{left_step, left_end, filled-length, filled_at}
+use Rattle.cipher.proofs.Texts.{chained_step, chained_end}
 use Rattle.cipher.proofs.fixity.chained.Goals as goal
 
-pub loop-i-preserved : goal.loop-i-preserved
-unfolding chain
-loop-i-preserved c =
-    let a = c.args in
-    let t : List ℕ = a.plain.now in
-    let g : ℕ → ℕ = computed a.keys.now in
-    let m : c.loop-i.i % 8 ≡ 0 = c.loop-i.invariant.1 in
-    let k : c.loop-i.i < length t = search rules in
-    let h : c.loop-i.i + 8 ≤ length (filled t) = omega (arith, filled-length t) in
-    let b : c.block_at.result ≡ word (padded 8 (drop c.loop-i.i (filled t))) = c.block_at.ensures ∙ ap word (filled_at t c.loop-i.i m k) in
-    let r : Turn = record { gives = c.compute-v.result; leaves = c.compute-v.result } in
-    let e : r ≡ chain g c.loop-i.v (word (padded 8 (drop c.loop-i.i (filled t)))) =
-    ap (λ (y : ℕ). record { gives = y; leaves = y }) (c.compute-v.ensures ∙ ap (λ (x : ℕ). g (bit_xor x c.loop-i.v)) b) in (
-      h,
-      omega arith,
-      left_step (chain g) c.loop-i.v (filled t) c.loop-i.i r e h ∙ c.loop-i.invariant.2,
-    )
+pub loop-block-preserved : goal.loop-block-preserved
+loop-block-preserved c =
+    let g : ℕ → ℕ = computed c.args.keys.now in
+    let s = c.in-Some.ensures.steps in
+    let y = c.compute-v.ensures ∙ ap (λ (x : ℕ). g (bit_xor x c.loop-block.v)) c.first_block.ensures in
+    (s.0 ∙ c.loop-block.invariant.0, chained_step g c.loop-block.v _ _ _ _ _ c.loop-block.invariant.0 s.1.0 s.1.1 s.1.2 y ∙ c.loop-block.invariant.1)
 
 pub returns : goal.returns
-returns c =
-    let a = c.args in
-    let m : c.loop-i.i % 8 ≡ 0 = c.loop-i.invariant.1 in
-    let k : length a.plain.now ≤ c.loop-i.i = search rules in
-    let h : length (filled a.plain.now) ≤ c.loop-i.i = omega (arith, filled-length a.plain.now) in
-    sym (left_end (chain (computed a.keys.now)) c.loop-i.v (filled a.plain.now) c.loop-i.i h) ∙ c.loop-i.invariant.2
+returns c = sym (chained_end (computed c.args.keys.now) c.loop-block.v _ c.in-None.ensures.steps.1.0) ∙ c.loop-block.invariant.1

@@ -1,14 +1,11 @@
-use mathlib.Core.Path.{◌≡◌}
-use Prim.Native.Nat.{◌%◌, ◌-◌, ◌≤◌}
-use lib.ListN.{length, drop}
+use Rattle.std.proofs.Common.{◌≡◌}
+use Rattle.std.specs.Slice.Iter.{chunks_rest, chunks_size}
 use Rattle.engine.specs.Fips46.{computed}
 use Rattle.fips81.specs.Fips81.{chain, left, blocks, filled}
 use Rattle.cipher.proofs.fixity.chained.Given as goal
 
-abbrev pub invariant-loop-i : goal.invariant-loop-i
-invariant-loop-i l =
-    (l.i ≤ length (filled l.plain)) × (l.i % 8 ≡ 0)
-    × (left (chain (computed l.keys)) l.v (blocks (drop l.i (filled l.plain))) ≡ left (chain (computed l.keys)) l.vector (blocks (filled l.plain)))
-
-abbrev pub decreases-loop-i : goal.decreases-loop-i
-decreases-loop-i l = length l.plain - l.i
+-- the blocks that are left, from the vector so far
+abbrev pub invariant-loop-block : goal.invariant-loop-block
+invariant-loop-block l =
+    (chunks_size l.block-iterator ≡ 8)
+    × (left (chain (computed l.keys)) l.v (blocks (filled (chunks_rest l.block-iterator))) ≡ left (chain (computed l.keys)) l.vector (blocks (filled l.plain)))

@@ -1,45 +1,41 @@
-use mathlib.Core.Path.{◌≡◌, sym, ap, ◌∙◌}
-use mathlib.Core.List.{List, ◌++◌, append-nil}
-use Prim.Native.Nat.{ℕ, ◌+◌, ◌≤◌}
-use native.Mathlib.Omega.{arith}
-use lib.ListN.{length, take, drop}
-use borrow.Author.Rules.{rules}
-use Rattle.ground.specs.Lists.{padded}
+use Rattle.std.proofs.Common.{◌≡◌, ℕ, ◌*◌, ◌≤◌, List, ◌++◌, append-nil, map, length, take, sym, ap, ◌∙◌, arith, rules}
 use Rattle.fips81.specs.declared.Turn.{Turn}
 use Rattle.cipher.specs.declared.modes.Mode.{Mode}
 use Rattle.cipher.specs.Bits.{word}
 use Rattle.engine.specs.Fips46.{computed}
 use Rattle.cipher.specs.Cipher.{way_of, direction_of}
-use Rattle.fips81.specs.Fips81.{turned, given, blocks, joined}
-use Rattle.cipher.proofs.Texts.{left_step, left_end, given-step, given_end, rest_step, written}
+use Rattle.fips81.specs.Fips81.{turned, given, left, blocks, joined}
+use Rattle.cipher.proofs.Texts.{chunks-blocks, left_step, left_end, given-step, given_end, rest_step, written}
 use Rattle.cipher.proofs.modes.run.Goals as goal
 
 abbrev turn : Mode → List ℕ → ℕ → ℕ → Turn
 turn m ks = turned (way_of m) (direction_of m) (computed ks)
 
+pub loop-i-init : goal.loop-i-init
+loop-i-init c =
+    let by : ℕ → ℕ → Turn = turn c.args.mode c.args.keys.now in
+    let e : map word c.as_chunks.result.0.now ≡ blocks c.args.text.now = ap (map word) c.as_chunks.ensures.front ∙ chunks-blocks c.args.text.now in
+    (ap (left by c.args.vector) e, ap (λ (l : List ℕ). joined (given by c.args.vector l)) e, search rules)
+
 pub loop-i-preserved : goal.loop-i-preserved
 loop-i-preserved c =
-    let a = c.args in
-    let by : ℕ → ℕ → Turn = turn a.mode a.keys.now in
-    let h : c.loop-i.i + 8 ≤ length a.text.now = omega arith in
-    let k : c.loop-i.i + 8 ≤ length c.loop-i.out = omega arith in
-    let e : c.turn_of-t.result ≡ by c.loop-i.v (word (padded 8 (drop c.loop-i.i a.text.now))) = c.turn_of-t.ensures ∙ ap (by c.loop-i.v) c.block_at.ensures in (
-      h,
-      omega arith,
-      c.put_block.auto.s ∙ c.loop-i.invariant.2,
-      left_step by c.loop-i.v a.text.now c.loop-i.i c.turn_of-t.result e h ∙ c.loop-i.invariant.3,
-      given-step by c.loop-i.v a.text.now c.loop-i.i c.turn_of-t.result e h c.loop-i.out _ k c.put_block.ensures ∙ c.loop-i.invariant.4,
-      rest_step _ c.loop-i.out _ c.loop-i.i c.turn_of-t.result.gives k c.put_block.ensures c.loop-i.invariant.5,
+    let by : ℕ → ℕ → Turn = turn c.args.mode c.args.keys.now in
+    let t = c.turn_of-t.result in
+    let e : t ≡ by c.loop-i.v (word _) = c.turn_of-t.ensures ∙ ap (by c.loop-i.v) c.word_of.ensures in
+    let y = c.copy_from_slice.ensures.after ∙ c.bytes_of.ensures in
+    let n : length c.copy_from_slice.new.self ≡ 8 = search rules in
+    let k : 8 * c.loop-i.i ≤ length c.loop-i.out = omega arith in (
+      left_step by c.loop-i.v _ c.loop-i.i t e c.loop-i-test.true ∙ c.loop-i.invariant.0,
+      given-step by c.loop-i.v _ c.loop-i.i t e c.loop-i-test.true _ c.loop-i.out _ y n k ∙ c.loop-i.invariant.1,
+      rest_step c.loop-i.i _ _ c.loop-i.out _ (omega arith) n k c.loop-i.invariant.2,
     )
 
 pub returns : goal.returns
 returns c =
-    let a = c.args in
-    let by : ℕ → ℕ → Turn = turn a.mode a.keys.now in
-    let h : length a.text.now ≤ c.loop-i.i = search rules in
-    let e : c.loop-i.i ≡ length a.text.now = omega arith in
-    let w : take c.loop-i.i c.loop-i.out ≡ joined (given by a.vector (blocks a.text.now)) =
-    sym (ap (λ (z : List ℕ). take c.loop-i.i c.loop-i.out ++ z) (given_end by c.loop-i.v a.text.now c.loop-i.i h) ∙ append-nil (take c.loop-i.i c.loop-i.out)) ∙ c.loop-i.invariant.4 in (
-      sym (left_end by c.loop-i.v a.text.now c.loop-i.i h) ∙ c.loop-i.invariant.3,
-      rw e at (written c.loop-i.out a.out.now _ c.loop-i.i w c.loop-i.invariant.5),
+    let by : ℕ → ℕ → Turn = turn c.args.mode c.args.keys.now in
+    let e : 8 * c.loop-i.i ≡ length c.args.text.now = omega (arith, c.as_chunks.ensures.front_len) in
+    let w : take (8 * c.loop-i.i) c.loop-i.out ≡ joined (given by c.args.vector (blocks c.args.text.now)) =
+    sym (ap (λ (z : List ℕ). take (8 * c.loop-i.i) c.loop-i.out ++ z) (given_end by c.loop-i.v _ c.loop-i.i c.loop-i-test.false) ∙ append-nil _) ∙ c.loop-i.invariant.1 in (
+      sym (left_end by c.loop-i.v _ c.loop-i.i c.loop-i-test.false) ∙ c.loop-i.invariant.0,
+      rw e at (written c.loop-i.out c.args.out.now _ (8 * c.loop-i.i) w c.loop-i.invariant.2),
     )

@@ -1,9 +1,7 @@
-use mathlib.Core.Path.{◌≡◌}
-use mathlib.Core.List.{List, ◌++◌}
-use Prim.Native.Nat.{ℕ, ◌%◌, ◌-◌, ◌≤◌}
-use lib.ListN.{length, take, drop}
+use Rattle.std.proofs.Common.{◌≡◌, ℕ, ◌*◌, List, ◌++◌, map, take, drop}
 use Rattle.fips81.specs.declared.Turn.{Turn}
 use Rattle.cipher.specs.declared.modes.Mode.{Mode}
+use Rattle.cipher.specs.Bits.{word}
 use Rattle.engine.specs.Fips46.{computed}
 use Rattle.cipher.specs.Cipher.{way_of, direction_of}
 use Rattle.fips81.specs.Fips81.{turned, given, left, blocks, joined}
@@ -14,10 +12,7 @@ turn m ks = turned (way_of m) (direction_of m) (computed ks)
 
 abbrev pub invariant-loop-i : goal.invariant-loop-i
 invariant-loop-i l =
-    (l.i ≤ length l.text) × (l.i % 8 ≡ 0) × (length l.out ≡ length l.initial.out)
-    × (left (turn l.mode l.keys) l.v (blocks (drop l.i l.text)) ≡ left (turn l.mode l.keys) l.vector (blocks l.text))
-    × (take l.i l.out ++ joined (given (turn l.mode l.keys) l.v (blocks (drop l.i l.text))) ≡ joined (given (turn l.mode l.keys) l.vector (blocks l.text)))
-    × (drop l.i l.out ≡ drop l.i l.initial.out)
-
-abbrev pub decreases-loop-i : goal.decreases-loop-i
-decreases-loop-i l = length l.text - l.i
+    (left (turn l.mode l.keys) l.v (map word (drop l.i l.blocks)) ≡ left (turn l.mode l.keys) l.vector (blocks l.text))
+    × (take (8 * l.i) l.out ++ joined (given (turn l.mode l.keys) l.v (map word (drop l.i l.blocks)))
+    ≡ joined (given (turn l.mode l.keys) l.vector (blocks l.text)))
+    × (drop (8 * l.i) l.out ≡ drop (8 * l.i) l.initial.out)

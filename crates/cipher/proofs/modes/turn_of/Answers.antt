@@ -1,3 +1,4 @@
+use Rattle.std.proofs.Common.{rules}
 use Rattle.fips81.specs.Fips81.{turned, codebook, chain, unchain}
 use Rattle.engine.specs.Fips46.{computed}
 use Rattle.cipher.specs.Cipher.{way_of, direction_of}
@@ -7,19 +8,15 @@ use Rattle.cipher.proofs.modes.turn_of.Goals as goal
 
 pub returns-in-Ecbe : goal.returns-in-Ecbe
 unfolding way_of direction_of turned codebook
-returns-in-Ecbe c = rw (c.in-Ecbe.is, c.compute.ensures)
-
-pub returns-in-Ecbd : goal.returns-in-Ecbd
-unfolding way_of direction_of turned codebook
-returns-in-Ecbd c = rw (c.in-Ecbd.is, c.compute-in-Ecbd.ensures)
+returns-in-Ecbe c = search rules
 
 pub returns-in-Cbce : goal.returns-in-Cbce
 unfolding way_of direction_of turned chain
-returns-in-Cbce c = rw (c.in-Cbce.is, c.compute-enciphered.ensures)
+returns-in-Cbce c = search rules
 
 pub returns-in-Cbcd : goal.returns-in-Cbcd
 unfolding way_of direction_of turned unchain
-returns-in-Cbcd c = rw (c.in-Cbcd.is, c.compute-in-Cbcd.ensures)
+returns-in-Cbcd c = search rules
 
 pub returns-in-Cfbe : goal.returns-in-Cfbe
 unfolding way_of direction_of turned

@@ -1,6 +1,4 @@
-use mathlib.Core.Path.{◌∙◌, ap}
-use Prim.Native.Nat.{ℕ}
-use lib.Bits.{bit_xor}
+use Rattle.std.proofs.Common.{◌∙◌, ap, ℕ, bit_xor}
 use Rattle.engine.specs.Bits.{permuted}
 use Rattle.engine.specs.Tables.{P}
 use Rattle.engine.specs.Fips46.{f, substituted}

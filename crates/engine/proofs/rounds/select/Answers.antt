@@ -1,7 +1,6 @@
-use Prim.Native.Nat.{ℕ, ◌+◌, ◌*◌, ◌/◌, ◌%◌}
+use Rattle.std.proofs.Common.{ℕ, ◌+◌, ◌*◌, ◌/◌, ◌%◌, arith, rules}
 use Rattle.ground.specs.Tests.{at_most}
 use Rattle.engine.specs.Fips46.{selected}
-use native.Mathlib.Omega.{arith}
 use Rattle.engine.proofs.rounds.select.Goals as goal
 
 at : ℕ → ℕ
@@ -10,4 +9,4 @@ at b = (b / 32 * 2 + b % 2) * 16 + b / 2 % 16
 pub returns : goal.returns
 unfolding selected at
 returns c =
-    (c.wide.ensures.0, omega (arith, c.wide.ensures.0, at_most 0 15 c.args.s.now c.requires.1 (at c.args.b)))
+    (search rules, omega (arith, c.from.ensures, at_most 0 15 c.args.s.now c.requires.1 (at c.args.b)))

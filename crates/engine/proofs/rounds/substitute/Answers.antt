@@ -1,5 +1,5 @@
 use Rattle.engine.proofs.Loops.{eight}
-use borrow.Author.Rules.{rules}
+use Rattle.std.proofs.Common.{rules}
 use Rattle.engine.proofs.rounds.substitute.Goals as goal
 
 pub returns : goal.returns

@@ -1,7 +1,6 @@
 use Rattle.engine.specs.Fips46.{shifted}
-use native.Mathlib.Omega.{arith}
+use Rattle.std.proofs.Common.{arith, rules}
 use Rattle.engine.proofs.Loops.{shifted_lt}
-use borrow.Author.Rules.{rules}
 use Rattle.engine.proofs.schedule.left_shift.Goals as goal
 
 pub overflow_add-result : goal.overflow_add-result

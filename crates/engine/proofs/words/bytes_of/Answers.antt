@@ -1,7 +1,6 @@
-use native.Mathlib.Nat.{div-one}
-use Rattle.ground.specs.Rows.{digits}
+use Rattle.std.proofs.Common.{◌∙◌}
+use Rattle.engine.proofs.Bytes.{bytes_are}
 use Rattle.engine.proofs.words.bytes_of.Goals as goal
 
 pub returns : goal.returns
-unfolding digits
-returns c = rw div-one
+returns c = c.to_be_bytes.ensures ∙ bytes_are c.args.x
