@@ -4,6 +4,8 @@
 #![tactic(auto, using(rules::proofs::Laws::by_effect), unfolding(rules::specs::Commands::tests, rules::specs::Commands::refusals, rules::specs::Commands::effect, rules::specs::Step::effected, rules::specs::Refusals::test, rules::specs::World::seat_of))]
 
 ghost use Rattle.std.specs.Prelude.{◌≡◌};
+ghost use Rattle.keys.specs.Keys.{parity_of};
+ghost use Rattle.table.specs.Passwords.{same};
 ghost use Rattle.rules.specs.Refusals.{lacks_entry, out_of_turn};
 ghost use Rattle.rules.specs.Commands.{EIK, IPW, RPW};
 ghost use Rattle.rules.specs.Outcomes.{Steps, StepsTable};
@@ -18,12 +20,20 @@ use state::interchanges::{change_key, current_key, is_name, old_key};
 use table::entries::{FREE, enrol, has_entry, is_fit};
 use table::passwords::{is_big, move_all, seal_password};
 
+// With parity set it is the same key.
+#[tactic(auto, using(table::proofs::Laws::same_is))]
+fn has_parity(key: [u8; 8]) -> bool
+    ensures { result ≡ same key (parity_of key) }
+{
+    key == set_parity(key)
+}
+
 pub fn eik(f: Facility, interchange: u8, key: [u8; 8]) -> Result<Outcome, Refusal>
     ensures { Steps f (EIK interchange key) result }
 {
     refuse(!is_name(interchange), Refusal::Interchange)?;
     refuse(own_name(interchange, f.due, false), Refusal::OutOfTurn)?;
-    refuse(key != set_parity(key), Refusal::EvenParity)?;
+    refuse(!has_parity(key), Refusal::EvenParity)?;
     let current = current_key(f, 1);
     let due = own_name(interchange, current.present, f.due);
     Ok(done(change_key(f, interchange, InterchangeKey(key), due)))

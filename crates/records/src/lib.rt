@@ -1,18 +1,7 @@
 // The six modes, and DAUT.
 
 // What the check opens of the page's table to see that a command does what its row says.
-#![tactic(
-    auto,
-    using(rules::proofs::Laws::by_effect),
-    unfolding(
-        rules::specs::Commands::tests,
-        rules::specs::Commands::refusals,
-        rules::specs::Commands::effect,
-        rules::specs::Step::effected,
-        rules::specs::Refusals::test,
-        rules::specs::World::seat_of
-    )
-)]
+#![tactic(auto, using(rules::proofs::Laws::by_effect), unfolding(rules::specs::Commands::tests, rules::specs::Commands::refusals, rules::specs::Commands::effect, rules::specs::Step::effected, rules::specs::Refusals::test, rules::specs::World::seat_of))]
 
 ghost use Rattle.std.specs.Prelude.{◌≡◌};
 ghost use Rattle.rules.specs.Commands.{by, mode, DAUT};
@@ -44,7 +33,10 @@ pub fn by_mode(
     let holdings = active(f, issuer)?;
     let side = mode_side(which, holdings);
     let key = held(side.key, Refusal::KeyMissing)?;
-    refuse(lacks_vector(which, side.vector.present), Refusal::VectorMissing)?;
+    refuse(
+        lacks_vector(which, side.vector.present),
+        Refusal::VectorMissing,
+    )?;
     refuse(is_bad_blocks(text.len()), Refusal::DataLength)?;
     let vector = apply(which, key, side.vector.value, text, out)?;
     let after = after_mode(which, vector, holdings);

@@ -3,6 +3,9 @@ use Rattle.std.specs.Prelude.{◌≡◌, ℕ, length, Result, Ok, Err}
 use Rattle.state.specs.declared.Facility.{Facility}
 use Rattle.state.specs.State.{Bytes}
 use Rattle.rules.specs.declared.Refusal.{Refusal}
+use Rattle.rules.specs.declared.Refusal.TheVariants.{DataLength, OutputLength}
+use Rattle.cipher.specs.declared.modes.Misfit.{Misfit}
+use Rattle.cipher.specs.declared.modes.Misfit.TheVariants.{BadLength, NoRoom}
 use Rattle.rules.specs.declared.Reply.{Reply}
 use Rattle.rules.specs.declared.Reply.TheVariants.{Plain, Block, Output}
 use Rattle.rules.specs.declared.Outcome.{Outcome}
@@ -35,6 +38,12 @@ StepsTable f t c r t' = (out : Bytes) → left f r t' out ≡ step (over f t) c 
 -- one that is lent the output, and leaves it as out'
 abbrev pub StepsOutput : Facility → Bytes → Command → Result Outcome Refusal → Bytes → Type 0
 StepsOutput f out c r out' = (t : Bytes) → left f r t out' ≡ step (over f t) c out
+
+-- ---- what a mode or a fixity value cannot take
+
+unfoldable pub refusal_of : Misfit → Refusal
+refusal_of BadLength = DataLength
+refusal_of NoRoom = OutputLength
 
 -- ---- what is done
 

@@ -1,14 +1,14 @@
 -- "Refusal numbers": each number's condition once. The table in `Commands` says which command asks which.
 -- A mark tells the forms of one number apart: r1² asks it of issuer and party, r2ᵗ of a lent table, r5² of LDK and RDK, r6ᵒ of the old key, r6ᵉ and r7ᵉ of EIK,
 -- r7ʳ of RPW, r11ᵐ of a mode, r12⁸ of whole blocks.
-use Rattle.std.specs.Prelude.{Bool, true, false, cond, not, List, [], ◌∷◌, ℕ, ◌%◌, eqb, ltb, length}
+use Rattle.std.specs.Prelude.{is_some, Bool, true, false, cond, not, List, [], ◌∷◌, ℕ, ◌%◌, eqb, ltb, length}
 use Rattle.cipher.specs.declared.modes.Mode.{Mode}
 use Rattle.cipher.specs.declared.modes.Mode.TheVariants.{Ecbe, Ecbd, Cbce, Cbcd, Cfbe, Cfbd}
 use Rattle.keys.specs.Keys.{parity_of}
 use Rattle.state.specs.declared.Side.{Side}
 use Rattle.state.specs.declared.Facility.{Facility}
 use Rattle.state.specs.State.{Bytes, named, key_at}
-use Rattle.table.specs.Entries.{fits, free_id, is_some, entry_of}
+use Rattle.table.specs.Entries.{fits, free_id, entry_of}
 use Rattle.table.specs.Passwords.{big, same, authentic}
 use Rattle.rules.specs.declared.Refusal.{Refusal}
 use Rattle.rules.specs.declared.Refusal.TheVariants.{Identifier, TableLength, NotActive, AlreadyActive, KeyFunction, Interchange, OutOfTurn, AllTaken, NotAuthenticated}

@@ -1,9 +1,10 @@
 // Answers: a refusal, where its condition holds, and the outcomes of what is done.
 ghost use Rattle.std.specs.Prelude.{◌≡◌};
 ghost use Rattle.rules.specs.Refusals.{number};
-ghost use Rattle.rules.specs.Outcomes.{done_of, gave_of, wrote_of};
+ghost use Rattle.rules.specs.Outcomes.{refusal_of, done_of, gave_of, wrote_of};
 
 use crate::{Outcome, Refusal, Reply};
+use cipher::modes::Misfit;
 use state::Facility;
 
 impl From<Refusal> for u8 {
@@ -28,6 +29,19 @@ impl From<Refusal> for u8 {
             Refusal::NoEntry => 15,
             Refusal::Form => 16,
             Refusal::Cut => 17,
+        }
+    }
+}
+
+// What a mode cannot take, the page's commands refuse.
+impl From<Misfit> for Refusal {
+    ghost from_gives = { λ m e. e ≡ refusal_of m };
+
+    #[tactic(auto, unfolding(crate::specs::Outcomes::refusal_of))]
+    fn from(misfit: Misfit) -> Refusal {
+        match misfit {
+            Misfit::BadLength => Refusal::DataLength,
+            Misfit::NoRoom => Refusal::OutputLength,
         }
     }
 }
