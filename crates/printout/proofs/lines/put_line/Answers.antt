@@ -1,13 +1,8 @@
-use Rattle.printout.specs.Lines.{by_parts}
+use Rattle.std.proofs.Common.{rules, append_assoc}
+use Rattle.printout.specs.Inked.{inked_more}
+use Rattle.printout.specs.Lines.{line}
 use Rattle.printout.proofs.lines.put_line.Goals as goal
 
 pub returns : goal.returns
-returns c = by_parts _ _ _ _ _ _ _ _ _ _ _ _ _
-    c.put_decimal-t1.ensures
-    c.put-t2.ensures
-    c.put_hex_byte-t3.ensures
-    c.put-t4.ensures
-    c.put_decimal-t5.ensures
-    c.put-t6.ensures
-    c.put_shown-t7.ensures
-    c.put.ensures
+unfolding line
+returns c = search (rules, inked_more, append_assoc)
