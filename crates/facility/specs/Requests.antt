@@ -1,13 +1,11 @@
 -- "The command stream": which command a request asks for, by its tag, and what carrying it out comes to.
-use Rattle.std.specs.Prelude.{cond, List, [], ◌∷◌, ℕ, eqb}
-use Rattle.std.proofs.Math.Option.{Option, none, some}
+use Rattle.std.specs.Prelude.{cond, Option, None, Some, List, [], ◌∷◌, ℕ, eqb}
 use Rattle.cipher.specs.declared.modes.Mode.TheVariants.{Ecbe, Ecbd, Cbce, Cbcd, Cfbe, Cfbd}
 use Rattle.stream.specs.declared.Request.{Request}
 use Rattle.state.specs.State.{Bytes}
-use Rattle.rules.specs.declared.Answer.TheVariants.{Refused}
 use Rattle.rules.specs.Commands.{RAS, LAU, CPW, GDK, LDK, GIV, LIV, EIV, RDK, mode, DAUT, Command, by, EIK, IPW, RPW, logout}
 use Rattle.rules.specs.World.{World}
-use Rattle.rules.specs.Step.{Result, result, plain, step}
+use Rattle.rules.specs.Step.{Refused, Result, result, plain, step}
 
 -- a tag, and its command
 pub record Row : Type 0 where
@@ -45,16 +43,16 @@ rows q d =
 
 -- the command beside a tag
 abbrev pub beside : ℕ → List Row → Option Command
-beside n [] = none
-beside n (r ∷ rs) = cond (eqb n r.tag) (some r.command) (beside n rs)
+beside n [] = None
+beside n (r ∷ rs) = cond (eqb n r.tag) (Some r.command) (beside n rs)
 
 abbrev pub command_of : Request → Bytes → Option Command
 command_of q d = beside q.tag (rows q d)
 
 -- that command's step; no command: 16, and all as it was
 abbrev pub carried_out : World → Option Command → Bytes → Result
-carried_out w none out = result (plain (Refused 16) out) w
-carried_out w (some c) out = step w c out
+carried_out w None out = result (plain (Refused 16) out) w
+carried_out w (Some c) out = step w c out
 
 unfoldable pub performed : World → Request → Bytes → Bytes → Result
 performed w q d out = carried_out w (command_of q d) out

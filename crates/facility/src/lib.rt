@@ -1,6 +1,6 @@
 // The key notarization facility: any command that the stream can spell, carried out by its tag.
 
-#![tactic(auto)]
+#![tactic(auto, unfolding(crate::specs::Requests::performed, crate::specs::Requests::rows))]
 
 ghost use Rattle.std.specs.Prelude.{◌≡◌};
 ghost use Rattle.rules.specs.World.{over};
