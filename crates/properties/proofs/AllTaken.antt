@@ -3,15 +3,15 @@
 use Rattle.std.specs.Prelude.{◌≡◌, Bool, not, List, [], ◌∷◌, ℕ, suc, ◌≤◌, eqb, length}
 use Rattle.std.proofs.Math.Path.{refl, ap, subst}
 use Rattle.std.proofs.Common.{sym, ◌∙◌, arith, eqb-true, eq-eqb, ne_eqb}
-use Rattle.std.proofs.Math.Option.{Option, none, some}
+use Rattle.std.specs.Prelude.{Option, None, Some}
 use Rattle.std.proofs.lemmas.Bool.{eqb-false}
 use Rattle.ground.specs.Search.{by_test}
 use Rattle.state.specs.declared.Holdings.{Holdings}
 use Rattle.state.specs.declared.Place.{Place}
-use Rattle.state.specs.State.{Bytes, holders, find, all_taken, shut_to, seat_of, key_at}
+use Rattle.state.specs.State.{Bytes, holders, find, all_taken, shut_to, key_at}
 use Rattle.table.specs.Entries.{fits}
 use Rattle.table.specs.Passwords.{big}
-use Rattle.rules.specs.World.{World, own, shut_for}
+use Rattle.rules.specs.World.{seat_of, World, own, shut_for}
 use Rattle.rules.specs.Refusals.{Test, test, first_of}
 use Rattle.rules.specs.Commands.{RAS, by, refusals, effect}
 use Rattle.rules.specs.Step.{number_of, step}
@@ -52,8 +52,8 @@ sixteen_taken_lem w n = taken-counted w.facility.places ∙ ap (eqb (length (hol
 four_first : (o : Option Holdings) (ps : List Place) (later : Bool → ℕ)
     → test (seat_of o).active 4 (later (shut_to o ps)) ≡ test (seat_of o).active 4 (later (all_taken ps))
 unfolding seat_of shut_to test
-four_first none ps later = refl
-four_first (some h) ps later = refl
+four_first None ps later = refl
+four_first (Some h) ps later = refl
 
 module _ (w : World) (u : ℕ) (password out : Bytes) where
   -- RAS's list with the condition `b` of 8

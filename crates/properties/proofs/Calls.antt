@@ -3,7 +3,7 @@ use Rattle.std.specs.Prelude.{◌≡◌, Bool, true, false, cond, ℕ, ◌%◌, 
 use Rattle.std.proofs.Math.Path.{refl, sym, ap}
 use Rattle.std.proofs.Common.{◌∙◌, true≢false, arith}
 use Rattle.std.proofs.Math.Bool.{not}
-use Rattle.std.proofs.Math.Option.{some}
+use Rattle.std.specs.Prelude.{Some}
 use Rattle.ground.specs.Search.{by_test}
 use Rattle.cipher.specs.Cipher.{Octets, Whole, vector_after}
 use Rattle.cipher.specs.declared.keys.Vector.{Vector}
@@ -11,9 +11,9 @@ use Rattle.cipher.specs.declared.modes.Mode.{Mode}
 use Rattle.cipher.specs.declared.modes.Mode.TheVariants.{Ecbe, Ecbd, Cbce, Cbcd, Cfbe, Cfbd}
 use Rattle.cipher.proofs.Promise.{mode_vector-after}
 use Rattle.state.specs.declared.Holdings.{Holdings}
-use Rattle.state.specs.State.{Bytes, seat, find, put, give, seat_of, with_places}
+use Rattle.state.specs.State.{Bytes, seat, find, put, give, with_places}
 use Rattle.table.specs.Passwords.{big}
-use Rattle.rules.specs.World.{World, over, shut_for, own}
+use Rattle.rules.specs.World.{seat_of, World, over, shut_for, own}
 use Rattle.rules.specs.Sides.{mode_side, after_mode, with_vector, lacks_vector}
 use Rattle.rules.specs.Refusals.{bad_length, bad_blocks}
 use Rattle.rules.specs.Commands.{by, mode, refusals, effect}
@@ -23,7 +23,7 @@ use Rattle.properties.specs.Steps.{Accepted, list_of}
 use Rattle.properties.proofs.Steps.{accepted_first, done-step, next, fails}
 use Rattle.properties.specs.Calls.{vector_of, held}
 
-module _ (w : World) (u : ℕ) (m : Mode) (d out : Bytes) (h : Holdings) (active : find u w.facility.places ≡ some h) where
+module _ (w : World) (u : ℕ) (m : Mode) (d out : Bytes) (h : Holdings) (active : find u w.facility.places ≡ Some h) where
   -- its conditions: those about the user and his side, those about the data
   pub record Conditions : Type 0 where
     pub small : big u ≡ false
@@ -95,10 +95,10 @@ module _ (h : Holdings) (x : Vector) where
 
 -- its vector is the one that the call leaves
 module _ (h : Holdings) (d : Bytes) (w : Whole d) (n : 0 < length d) where
-  pub vector-left : (m : Mode) → Octets (mode_side m h).vector.vector.0 → (mode_side m (held m h d)).vector.vector.0 ≡ (vector_of m h d).0
+  pub vector-left : (m : Mode) → Octets (mode_side m h).vector.value.0 → (mode_side m (held m h d)).vector.value.0 ≡ (vector_of m h d).0
   unfolding mode_side after_mode with_vector vector_after
-  vector-left Ecbe o = sym (mode_vector-after h.transmit.key.key.0 h.transmit.vector.vector.0 d o w n Ecbe)
-  vector-left Ecbd o = sym (mode_vector-after h.receive.key.key.0 h.receive.vector.vector.0 d o w n Ecbd)
+  vector-left Ecbe o = sym (mode_vector-after h.transmit.key.value.0 h.transmit.vector.value.0 d o w n Ecbe)
+  vector-left Ecbd o = sym (mode_vector-after h.receive.key.value.0 h.receive.vector.value.0 d o w n Ecbd)
   vector-left Cbce o = refl
   vector-left Cbcd o = refl
   vector-left Cfbe o = refl

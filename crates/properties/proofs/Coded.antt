@@ -2,20 +2,19 @@
 use Rattle.std.specs.Prelude.{◌≡◌, refl, true, false, not, ℕ, ◌≤◌, length, take}
 use Rattle.std.proofs.Common.{sym, ◌∙◌, subst, arith, le-ltb}
 use Rattle.std.proofs.Math.Path.{ap, ap₂}
-use Rattle.std.proofs.Math.Option.{some}
+use Rattle.std.specs.Prelude.{Some}
 use Rattle.cipher.specs.Cipher.{Octets, Way, ECB, CBC, CFB, enciphering, deciphering, mode_text}
 use Rattle.cipher.specs.declared.keys.Vector.{Vector}
 use Rattle.cipher.specs.declared.modes.Mode.{Mode}
 use Rattle.cipher.specs.declared.modes.Mode.TheVariants.{Ecbe, Ecbd, Cbce, Cbcd, Cfbe, Cfbd}
 use Rattle.cipher.proofs.Promise.{mode_text-length, mode_text_back}
 use Rattle.state.specs.declared.Holdings.{Holdings}
-use Rattle.state.specs.State.{Bytes, find, seat_of}
-use Rattle.rules.specs.declared.Answer.TheVariants.{Wrote}
-use Rattle.rules.specs.World.{World}
+use Rattle.state.specs.State.{Bytes, find}
+use Rattle.rules.specs.World.{seat_of, World}
 use Rattle.rules.specs.Sides.{mode_side, after_mode, with_vector, lacks_vector}
 use Rattle.rules.specs.Refusals.{bad_blocks}
 use Rattle.rules.specs.Commands.{by, mode}
-use Rattle.rules.specs.Step.{Result, step}
+use Rattle.rules.specs.Step.{Wrote, Result, step}
 use Rattle.properties.proofs.Steps.{put-own}
 use Rattle.properties.specs.Calls.{vector_of, held}
 use Rattle.properties.proofs.Calls.{Conditions, accepted, left_world}
@@ -39,7 +38,7 @@ has-vector Cfbd = refl
 
 module _ (w : World) (u : ℕ) (m : Mode) (k v t out : Bytes) (active : IsActive u w) (su : IsSmall u) (side : Equipped k v (mode_side m (sides_of u w)))
     (blocks : bad_blocks (length t) ≡ false) (room : length t ≤ length out) where
-  place : find u w.facility.places ≡ some (sides_of u w)
+  place : find u w.facility.places ≡ Some (sides_of u w)
   place = has_place (find u w.facility.places) active
 
   call : Conditions w u m t out (sides_of u w) place
@@ -59,10 +58,10 @@ module _ (w : World) (u : ℕ) (m : Mode) (k v t out : Bytes) (active : IsActive
   unfolding text
   writes =
       written w u m t out (sides_of u w) place (accepted w u m t out (sides_of u w) place call)
-      ∙ ap₂ (λ x y. mode_text m x.key.0 y.vector.0 t) side.key side.vector
+      ∙ ap₂ (λ x y. mode_text m x.value.0 y.value.0 t) side.key side.vector
 
   -- what u holds after it
-  left_place : find u (step w (by u (mode m t)) out).world.facility.places ≡ some (held m (sides_of u w) t)
+  left_place : find u (step w (by u (mode m t)) out).world.facility.places ≡ Some (held m (sides_of u w) t)
   left_place =
       ap (λ (x : World). find u x.facility.places) (left_world w u m t out (sides_of u w) place call)
       ∙ put-own u (sides_of u w) (held m (sides_of u w) t) w.facility.places place
@@ -116,7 +115,7 @@ module _ (y : Way) (W : World) (i : ℕ) (k v t out : Bytes) where
     written_is : cipher ≡ mode_text (enciphering y) k v t
     written_is = writes W i (enciphering y) k v t out active si e_equipped blocks room
 
-    place_then : find i e.world.facility.places ≡ some (held (enciphering y) (sides_of i W) t)
+    place_then : find i e.world.facility.places ≡ Some (held (enciphering y) (sides_of i W) t)
     place_then = left_place W i (enciphering y) k v t out active si e_equipped blocks room
 
     same_length : length cipher ≡ length t

@@ -14,11 +14,10 @@ use Rattle.cipher.specs.Cipher.{mode_text}
 use Rattle.cipher.proofs.Promise.{mode_text-length}
 use Rattle.ground.specs.Search.{by_test}
 use Rattle.state.specs.State.{Bytes}
-use Rattle.rules.specs.declared.Answer.TheVariants.{Done, Refused}
 use Rattle.rules.specs.Commands.{UserCommand, RAS, LAU, CPW, GDK, LDK, GIV, LIV, EIV, RDK, mode, DAUT, Command, by, EIK, IPW, RPW, logout, refused, refusals, effect, tests}
 use Rattle.rules.specs.World.{World, Own, shut_for, own}
 use Rattle.rules.specs.Refusals.{Test, test, first_of, bad_blocks}
-use Rattle.rules.specs.Step.{told, plain, number_of, Result, result, rule, step, step_by, carry, settled}
+use Rattle.rules.specs.Step.{Done, Refused, told, plain, number_of, Result, result, rule, step, step_by, carry, settled}
 use Rattle.rules.proofs.Laws.{good_blocks}
 use Rattle.properties.specs.Demand1.{holds, rising, Lowest, users_written, written, Demand1, Sound, mode_page, page, among, up_to, numbers, Printed}
 

@@ -9,12 +9,13 @@ use Rattle.std.proofs.Math.ListN.{length}
 use Rattle.ground.specs.Search.{by_test}
 use Rattle.ground.specs.Lists.{Below}
 use Rattle.cipher.specs.Cipher.{Octets}
-use Rattle.state.specs.declared.HeldInterchangeKey.{HeldInterchangeKey}
+use Rattle.cipher.specs.declared.keys.InterchangeKey.{InterchangeKey}
+use Rattle.state.specs.declared.Held.{Held}
 use Rattle.state.specs.declared.Place.{Place}
-use Rattle.state.specs.State.{Bytes, past_keys, named, key_at, rekeyed, find, seat_of, shut_to}
+use Rattle.state.specs.State.{held, Bytes, past_keys, named, key_at, rekeyed, find, shut_to}
 use Rattle.table.specs.Entries.{fits, entry_of}
 use Rattle.table.specs.Passwords.{big, authentic}
-use Rattle.rules.specs.World.{World, over, key1}
+use Rattle.rules.specs.World.{seat_of, World, over, key1}
 use Rattle.rules.specs.Refusals.{test, first_of, of_own, out_of_turn}
 use Rattle.rules.specs.Commands.{RAS, CPW, by, EIK, RPW, tests, refusals, effect, keyed}
 use Rattle.rules.specs.Step.{number_of, step}
@@ -28,7 +29,7 @@ seen_alike : {f f' : Bool} {ps ps' : List Place} {k k' d d' x x' : Bool} → f �
 seen_alike {f} {f'} {ps} {ps'} {k} {k'} {d} {d'} {x} {x'} a b c e g =
     ap₂ (λ (y : Bool) (z : List Place). seen y z k d x) a b ∙ ap₂ (λ (y z : Bool). seen f' ps' y z x) c e ∙ ap (seen f' ps' k' d') g
 
-stored : (l : List HeldInterchangeKey) (x : HeldInterchangeKey) → (get_or (set l 0 x) 0 past_keys).present ≡ true → get_or (set l 0 x) 0 past_keys ≡ x
+stored : (l : List (Held InterchangeKey)) (x : Held InterchangeKey) → (get_or (set l 0 x) 0 past_keys).present ≡ true → get_or (set l 0 x) 0 past_keys ≡ x
 stored [] x h = absurd (false≢true h)
 stored (y ∷ l) x h = refl
 
@@ -62,8 +63,8 @@ module _ (w : World) (k out out' : Bytes) (entered : Performed w (EIK 1 k) out) 
   key-entered =
       ap key1 (after_is between out' moves)
       ∙ ap key1 between_is
-      ∙ ap (λ (x : HeldInterchangeKey). x.key.0)
-      (stored w.facility.current_keys (record { present = true; key = record { 0 = k } })
+      ∙ ap (λ (x : Held InterchangeKey). x.value.0)
+      (stored w.facility.current_keys (held (record { 0 = k }))
       (subst (λ (x : World). (key_at 1 x.facility.current_keys).present ≡ true) between_is (rpw_keys between out' moves).1))
 
   -- every user authenticates exactly if he did before (that name 1 had a current key is known: RPW was done)
@@ -71,7 +72,7 @@ module _ (w : World) (k out out' : Bytes) (entered : Performed w (EIK 1 k) out) 
   authenticates_as_before bytes u p s o =
       let t : between.table ≡ w.table = ap (λ (x : World). x.table) between_is in
       rpw_keeps between out' moves (subst (Below 256) (sym t) bytes) u p s o
-      ∙ ap₂ (λ (x : HeldInterchangeKey) (y : Bytes). authentic x.key.0 u p (entry_of u y)) key-kept t
+      ∙ ap₂ (λ (x : Held InterchangeKey) (y : Bytes). authentic x.value.0 u p (entry_of u y)) key-kept t
 
   -- what RAS and CPW look at is as before
   places_kept : reencrypted.facility.places ≡ w.facility.places
@@ -90,7 +91,7 @@ module _ (w : World) (k out out' : Bytes) (entered : Performed w (EIK 1 k) out) 
   key_there =
       ap (λ (x : World). (key_at 1 x.facility.current_keys).present) (after_is between out' moves)
       ∙ (rpw_keys between out' moves).1
-      ∙ sym (sym (ap (λ (x : HeldInterchangeKey). x.present) key-kept) ∙ (rpw_keys between out' moves).0)
+      ∙ sym (sym (ap (λ (x : Held InterchangeKey). x.present) key-kept) ∙ (rpw_keys between out' moves).0)
 
   not_due : reencrypted.facility.due ≡ w.facility.due
   unfolding effected tests of_own
@@ -126,7 +127,7 @@ module _ (w : World) (k out out' : Bytes) (entered : Performed w (EIK 1 k) out) 
         ∙ sym (reply-first w u (CPW p new) out'' refl)
 
 -- EIK of name 1 where that name already had a current key: it is then the turn of RPW, beside any table that fits (an array of keys is not empty)
-there : (now old : List HeldInterchangeKey) (k : HeldInterchangeKey) → k.present ≡ true → (get_or now 0 past_keys).present ≡ true → 0 < length old
+there : (now old : List (Held InterchangeKey)) (k : Held InterchangeKey) → k.present ≡ true → (get_or now 0 past_keys).present ≡ true → 0 < length old
     → ((get_or (set old 0 (get_or now 0 past_keys)) 0 past_keys).present ≡ true) × ((get_or (set now 0 k) 0 past_keys).present ≡ true)
 there [] old k e h l = absurd (false≢true h)
 there (x ∷ now) [] k e h l = absurd (omega arith)
@@ -138,7 +139,7 @@ unfolding step tests keyed rekeyed named key_at of_own out_of_turn
 rpw_in_turn w k out out' entered had f l =
     let z : first_of (tests (EIK 1 k) w out) ≡ 0 = settled-first (first_of (tests (EIK 1 k) w out)) w _ out entered in
     let v : World = over (keyed 1 k w.facility) w.table in
-    let t = there w.facility.current_keys w.facility.old_keys (record { present = true; key = record { 0 = k } }) refl had l in
+    let t = there w.facility.current_keys w.facility.old_keys (held (record { 0 = k })) refl had l in
     let turn : out_of_turn v.facility ≡ false =
     ap (λ (d : Bool). cond d (cond (key_at 1 v.facility.old_keys).present (not (key_at 1 v.facility.current_keys).present) true) true) had
     ∙ ap₂ (λ (a b : Bool). cond a (not b) true) t.0 t.1 in

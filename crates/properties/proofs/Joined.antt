@@ -2,7 +2,7 @@
 use Rattle.std.specs.Prelude.{◌≡◌, refl, Bool, false, cond, List, [], ◌∷◌, ◌++◌, ℕ, ◌+◌, ◌%◌, ◌≤◌, length, take}
 use Rattle.std.proofs.Math.Path.{sym, ap₂}
 use Rattle.std.proofs.Common.{ap, ◌∙◌, arith, length-append, eq-eqb, ne_eqb, le-ltb}
-use Rattle.std.proofs.Math.Option.{some}
+use Rattle.std.specs.Prelude.{Some}
 use Rattle.ground.specs.Search.{by_test}
 use Rattle.ground.specs.Lists.{Below}
 use Rattle.cipher.specs.Cipher.{Octets, Whole, mode_text, mode_vector}
@@ -60,8 +60,8 @@ good n z l b = rw (ne_eqb n 0 z, le-ltb 32768 n l, eq-eqb (n % 8) 0 b)
 -- ---- two calls, and one
 
 -- the active user u, who holds h, calls the mode m with d, then with e
-module _ (w : World) (u : ℕ) (m : Mode) (d e out₁ out₂ : Bytes) (h : Holdings) (active : find u w.facility.places ≡ some h)
-    (o : Octets (mode_side m h).vector.vector.0) (bytes : Below 256 d)
+module _ (w : World) (u : ℕ) (m : Mode) (d e out₁ out₂ : Bytes) (h : Holdings) (active : find u w.facility.places ≡ Some h)
+    (o : Octets (mode_side m h).vector.value.0) (bytes : Below 256 d)
     (one : Accepted w u (mode m d) out₁) (two : Accepted (step w (by u (mode m d)) out₁).world u (mode m e) out₂) where
   -- the world between the calls
   abbrev pub between : World
@@ -77,7 +77,7 @@ module _ (w : World) (u : ℕ) (m : Mode) (d e out₁ out₂ : Bytes) (h : Holdi
   first : Conditions w u m d out₁ h active
   first = conditions w u m d out₁ h active one
 
-  still : find u between.facility.places ≡ some (held m h d)
+  still : find u between.facility.places ≡ Some (held m h d)
   still = ap (λ (x : World). find u x.facility.places) (left_world w u m d out₁ h active first) ∙ put-own u h (held m h d) w.facility.places active
 
   second : Conditions between u m e out₂ (held m h d) still
@@ -89,10 +89,10 @@ module _ (w : World) (u : ℕ) (m : Mode) (d e out₁ out₂ : Bytes) (h : Holdi
   all : Whole d
   all = record { blocks = whole w u m d out₁ h active one; small = bytes }
 
-  key_is : (mode_side m (held m h d)).key.key.0 ≡ (mode_side m h).key.key.0
-  key_is = ap (λ k. k.key.0) (key_stays h (vector_of m h d) m)
+  key_is : (mode_side m (held m h d)).key.value.0 ≡ (mode_side m h).key.value.0
+  key_is = ap (λ k. k.value.0) (key_stays h (vector_of m h d) m)
 
-  vector_is : (mode_side m (held m h d)).vector.vector.0 ≡ (vector_of m h d).0
+  vector_is : (mode_side m (held m h d)).vector.value.0 ≡ (vector_of m h d).0
   vector_is = vector-left h d all (omega (arith, some_data)) m o
 
   -- the one call on the joined data is accepted, where that is at most 32768 bytes and the output has room
@@ -119,7 +119,7 @@ module _ (w : World) (u : ℕ) (m : Mode) (d e out₁ out₂ : Bytes) (h : Holdi
     unfolding text
     joined-text =
         written w u m (d ++ e) out h active joined_accepted
-        ∙ mode_text_join m (mode_side m h).key.key.0 (mode_side m h).vector.vector.0 d e o all
+        ∙ mode_text_join m (mode_side m h).key.value.0 (mode_side m h).vector.value.0 d e o all
         ∙ sym (ap₂ (λ (x y : Bytes). x ++ y)
         (written w u m d out₁ h active one)
         (written between u m e out₂ (held m h d) still two ∙ ap₂ (λ (k v : Bytes). mode_text m k v e) key_is vector_is))
@@ -128,7 +128,7 @@ module _ (w : World) (u : ℕ) (m : Mode) (d e out₁ out₂ : Bytes) (h : Holdi
     held_same =
         ap₂ (λ (k v : Bytes). after_mode m (record { 0 = mode_vector m k v e }) (held m h d)) key_is vector_is
         ∙ twice h (vector_of m h d) m _
-        ∙ ap (λ (v : Bytes). after_mode m (record { 0 = v }) h) (sym (mode_vector_join m (mode_side m h).key.key.0 (mode_side m h).vector.vector.0 d e o all))
+        ∙ ap (λ (v : Bytes). after_mode m (record { 0 = v }) h) (sym (mode_vector_join m (mode_side m h).key.value.0 (mode_side m h).vector.value.0 d e o all))
 
     -- and leaves the world that they left
     pub joined_world : (step w (by u (mode m (d ++ e))) out).world ≡ (step between (by u (mode m e)) out₂).world

@@ -93,7 +93,7 @@ module _ (w : World) (u : ℕ) (out : Bytes) (active : IsActive u w) (su : IsSma
         (fails (big u) 1 _ (small u su)
         (fails _ 3 _ (ap not active)
         (fails _ 10 0 (ap (λ x. not x.present) key) refl)))
-        ∙ ap (λ x. gave (enciphered x.key.0 (parity_of seed)) out w) key
+        ∙ ap (λ x. gave (enciphered x.value.0 (parity_of seed)) out w) key
 
     pub eiv : (b : Bytes) → step w (by u (EIV b)) out ≡ gave (enciphered k b) out w
     unfolding refusals effect
@@ -102,7 +102,7 @@ module _ (w : World) (u : ℕ) (out : Bytes) (active : IsActive u w) (su : IsSma
         (fails (big u) 1 _ (small u su)
         (fails _ 3 _ (ap not active)
         (fails _ 10 0 (ap (λ x. not x.present) key) refl)))
-        ∙ ap (λ x. gave (enciphered x.key.0 b) out w) key
+        ∙ ap (λ x. gave (enciphered x.value.0 b) out w) key
 
   pub liv : (f : ℕ) (k b : Bytes) → unknown (function_of f) ≡ false → (side_for (function_of f) (sides_of u w)).key ≡ held_key k
       → step w (by u (LIV f b)) out ≡ done w u out (with_vector (function_of f) (record { 0 = deciphered k b }) (sides_of u w))
@@ -113,7 +113,7 @@ module _ (w : World) (u : ℕ) (out : Bytes) (active : IsActive u w) (su : IsSma
       (fails _ 3 _ (ap not active)
       (fails _ 5 _ known
       (fails _ 10 0 (ap (λ x. not x.present) key) refl))))
-      ∙ ap (λ x. done w u out (with_vector (function_of f) (record { 0 = deciphered x.key.0 b }) (sides_of u w))) key
+      ∙ ap (λ x. done w u out (with_vector (function_of f) (record { 0 = deciphered x.value.0 b }) (sides_of u w))) key
 
 -- ---- what a load leaves, by its fields
 

@@ -9,15 +9,13 @@ use Rattle.ground.specs.Search.{by_test}
 use Rattle.ground.specs.Rows.{row}
 use Rattle.state.specs.declared.Facility.{Facility}
 use Rattle.state.specs.State.{Bytes}
-use Rattle.table.specs.Entries.{free_id, fits, id_of, entry_of, enrolled}
+use Rattle.table.specs.Entries.{id_at, free_id, fits, id_of, entry_of, enrolled}
 use Rattle.table.specs.Passwords.{big, sealed}
-use Rattle.table.specs.Located.{id_at}
 use Rattle.table.proofs.Laws.{sealed_eight}
-use Rattle.rules.specs.declared.Answer.TheVariants.{Done, Refused}
 use Rattle.rules.specs.Commands.{UserCommand, RAS, LAU, CPW, GDK, LDK, GIV, LIV, EIV, RDK, mode, DAUT, Command, by, EIK, IPW, RPW, logout, Effect, refused, gives, keeps, leaves, enters, writes, refusals, effect, undue, keyed, tests}
 use Rattle.rules.specs.World.{Own, World, over, own, shut_for, key1}
 use Rattle.rules.specs.Refusals.{test, first_of, big_pair, lacks_entry, out_of_turn}
-use Rattle.rules.specs.Step.{ruled, rule, carry, told, plain, Result, result, rule_in, step_by, settled, step}
+use Rattle.rules.specs.Step.{Done, Refused, ruled, rule, carry, told, plain, Result, result, rule_in, step_by, settled, step}
 use Rattle.rules.proofs.Laws.{mode_first}
 use Rattle.properties.proofs.Steps.{next}
 use Rattle.properties.proofs.Tables.{enter_size, enrolled_size}

@@ -5,8 +5,9 @@ use Rattle.std.proofs.Math.Path.{ap}
 use Rattle.std.proofs.lemmas.Bool.{false≢true}
 use borrow.Author.Tests.{ltb-false, eq-eqb, ne_eqb}
 use Rattle.ground.specs.Search.{by_test}
-use Rattle.state.specs.declared.HeldInterchangeKey.{HeldInterchangeKey}
-use Rattle.state.specs.State.{Bytes, past_keys, named, key_at, rekeyed, find}
+use Rattle.cipher.specs.declared.keys.InterchangeKey.{InterchangeKey}
+use Rattle.state.specs.declared.Held.{Held}
+use Rattle.state.specs.State.{held, Bytes, past_keys, named, key_at, rekeyed, find}
 use Rattle.table.specs.Entries.{entry_of}
 use Rattle.table.specs.Passwords.{big, sealed}
 use Rattle.table.proofs.Laws.{sealed_eight}
@@ -32,7 +33,7 @@ at_fifteen p h =
     (λ z. (ltb-false p 1 y, ltb-false 15 p z)))
 
 -- another name's key, where one is set
-key_other : (n i : ℕ) (x : HeldInterchangeKey) (ks : List HeldInterchangeKey) → named i ≡ true → (n ≡ i → ⊥)
+key_other : (n i : ℕ) (x : Held InterchangeKey) (ks : List (Held InterchangeKey)) → named i ≡ true → (n ≡ i → ⊥)
     → key_at n (set ks (i - 1) x) ≡ key_at n ks
 unfolding key_at
 key_other n i x ks h d =
@@ -43,7 +44,7 @@ key_other n i x ks h d =
     rw e (get_or-set_other ks (i - 1) (n - 1) x past_keys (λ q. d (omega (arith, a.0, b.0)))))
     (λ e. rw e)
 
-key-own : (i : ℕ) (x : HeldInterchangeKey) (ks : List HeldInterchangeKey) → named i ≡ true → length ks ≡ 15 → key_at i (set ks (i - 1) x) ≡ x
+key-own : (i : ℕ) (x : Held InterchangeKey) (ks : List (Held InterchangeKey)) → named i ≡ true → length ks ≡ 15 → key_at i (set ks (i - 1) x) ≡ x
 unfolding key_at
 key-own i x ks h l =
     let b = at_fifteen i h in
@@ -74,7 +75,7 @@ module _ (w : World) (i : ℕ) (k out : Bytes) (done : Performed w (EIK i k) out
   -- "current, even a missing one, becomes old; given key becomes current"; every other name's keys, the places and the table are as they were.
   -- "EIK of name 1 sets DUE where that name already had a current key; EIK of another name never does"
   pub record KeyEntered : Type 0 where
-    pub current : key_at i entered.facility.current_keys ≡ record { present = true; key = record { 0 = k } }
+    pub current : key_at i entered.facility.current_keys ≡ held (record { 0 = k })
     pub old : key_at i entered.facility.old_keys ≡ key_at i w.facility.current_keys
     pub other_current : (n : ℕ) → (n ≡ i → ⊥) → key_at n entered.facility.current_keys ≡ key_at n w.facility.current_keys
     pub other_old : (n : ℕ) → (n ≡ i → ⊥) → key_at n entered.facility.old_keys ≡ key_at n w.facility.old_keys

@@ -4,8 +4,8 @@ use Rattle.std.proofs.Common.{sym, ap, ◌∙◌}
 use Rattle.cipher.specs.declared.modes.Mode.{Mode}
 use Rattle.cipher.specs.declared.modes.Mode.TheVariants.{Ecbe, Ecbd, Cbce, Cbcd, Cfbe, Cfbd}
 use Rattle.keys.specs.Keys.{parity_of}
-use Rattle.state.specs.State.{Bytes, find, seat_of, key_at}
-use Rattle.rules.specs.World.{World}
+use Rattle.state.specs.State.{Bytes, find, key_at}
+use Rattle.rules.specs.World.{seat_of, World}
 use Rattle.properties.proofs.Others.{others_stay, keys_stay}
 use Rattle.properties.specs.Delivered.{Premises, e, Delivered}
 use Rattle.properties.proofs.Delivered.{delivered}
@@ -42,7 +42,7 @@ module _ (F : World) (i j p q : ℕ) (bits seed text out out' : Bytes) where
           shared =
               record {
                 current = ap (λ l. (key_at q l).present) (same_keys E) ∙ x.shared.current;
-                alike = ap (λ l. parity_of (key_at q l).key.0) (same_keys E) ∙ x.shared.alike;
+                alike = ap (λ l. parity_of (key_at q l).value.0) (same_keys E) ∙ x.shared.alike;
               };
           brought = x.brought;
         }

@@ -7,10 +7,9 @@ use Rattle.cipher.specs.declared.modes.Mode.TheVariants.{Ecbe, Ecbd, Cbce, Cbcd,
 use Rattle.keys.specs.Keys.{parity_of, notarized}
 use Rattle.keys.proofs.Laws.{parity_octets}
 use Rattle.state.specs.State.{Bytes}
-use Rattle.rules.specs.declared.Answer.TheVariants.{Done, Gave, Wrote}
 use Rattle.rules.specs.World.{World}
 use Rattle.rules.specs.Commands.{by, GDK, LDK, GIV, LIV, mode}
-use Rattle.rules.specs.Step.{Result, step}
+use Rattle.rules.specs.Step.{Done, Gave, Wrote, Result, step}
 use Rattle.properties.specs.Held.{IsActive, IsSmall, as_s, HasCurrent, current_key, Brought, Loaded, Vectored}
 use Rattle.properties.specs.Demand2.{Generates, Recovered}
 use Rattle.properties.proofs.Demand2.{recovered}

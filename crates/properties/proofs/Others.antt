@@ -3,12 +3,12 @@ use Rattle.std.specs.Prelude.{◌≡◌, refl, Bool, true, false, cond, List, []
 use Rattle.std.proofs.Common.{sym, ◌∙◌, ne_eqb}
 use Rattle.std.proofs.Math.Path.{ap}
 use Rattle.std.proofs.lemmas.Bool.{false≢true}
-use Rattle.std.proofs.Math.Option.{Option, none, some}
+use Rattle.std.specs.Prelude.{Option, None, Some}
 use Rattle.ground.specs.Search.{by_test}
 use Rattle.state.specs.declared.Holdings.{Holdings}
 use Rattle.state.specs.declared.Place.{Place}
-use Rattle.state.specs.State.{Bytes, vacant, seat, has, find, put, admit, give, give_to, leave, seat_of}
-use Rattle.rules.specs.World.{World}
+use Rattle.state.specs.State.{Bytes, vacant, seat, has, find, put, admit, give, give_to, leave}
+use Rattle.rules.specs.World.{seat_of, World}
 use Rattle.rules.specs.Commands.{UserCommand, Effect, refused, gives, keeps, leaves, enters, writes, by}
 use Rattle.rules.specs.Step.{step, carry, rule_in}
 use Rattle.properties.proofs.Steps.{give-own}
@@ -24,22 +24,22 @@ put_other v u x (p ∷ ps) d n =
     by_test (has u p)
     (λ t.
     ap (λ (b : Bool). find v (cond b (x ∷ ps) (p ∷ put u x ps))) t
-    ∙ ap (λ (b : Bool). cond b (some x.holdings) (find v ps)) n
-    ∙ sym (ap (λ (b : Bool). cond b (some p.holdings) (find v ps)) (has_same u v p t ∙ d)))
+    ∙ ap (λ (b : Bool). cond b (Some x.holdings) (find v ps)) n
+    ∙ sym (ap (λ (b : Bool). cond b (Some p.holdings) (find v ps)) (has_same u v p t ∙ d)))
     (λ f.
     ap (λ (b : Bool). find v (cond b (x ∷ ps) (p ∷ put u x ps))) f
-    ∙ ap (λ (o : Option Holdings). cond (has v p) (some p.holdings) o) (put_other v u x ps d n))
+    ∙ ap (λ (o : Option Holdings). cond (has v p) (Some p.holdings) o) (put_other v u x ps d n))
 
 admit_other : (v : ℕ) (x : Place) (ps : List Place) → has v x ≡ false → find v (admit x ps) ≡ find v ps
 admit_other v x [] n = refl
 admit_other v x (p ∷ ps) n =
     by_test p.taken
-    (λ t. rw t (ap (λ (o : Option Holdings). cond (eqb v p.user) (some p.holdings) o) (admit_other v x ps n)))
+    (λ t. rw t (ap (λ (o : Option Holdings). cond (eqb v p.user) (Some p.holdings) o) (admit_other v x ps n)))
     (λ f. rw (f, n))
 
 given_to : (v u : ℕ) (o : Option Holdings) (h : Holdings) (ps : List Place) → eqb v u ≡ false → find v (give_to o u h ps) ≡ find v ps
-given_to v u none h ps d = admit_other v (seat u h) ps d
-given_to v u (some g) h ps d = put_other v u (seat u h) ps d d
+given_to v u None h ps d = admit_other v (seat u h) ps d
+given_to v u (Some g) h ps d = put_other v u (seat u h) ps d d
 
 pub give_other : (v u : ℕ) (h : Holdings) (ps : List Place) → eqb v u ≡ false → find v (give u h ps) ≡ find v ps
 unfolding give
@@ -94,13 +94,13 @@ module _ (w : World) (u : ℕ) (c : UserCommand) (out : Bytes) where
   unfolding step
   keys_stay = carry_keys u (rule_in w u c out) w
 
-pub has_place : (o : Option Holdings) → (seat_of o).active ≡ true → o ≡ some (seat_of o).holdings
+pub has_place : (o : Option Holdings) → (seat_of o).active ≡ true → o ≡ Some (seat_of o).holdings
 unfolding seat_of
-has_place none a = absurd (false≢true a)
-has_place (some h) a = refl
+has_place None a = absurd (false≢true a)
+has_place (Some h) a = refl
 
 module _ (w : World) (u : ℕ) (h : Holdings) (active : IsActive u w) where
-  pub holding_place : find u (holding w u h).facility.places ≡ some h
+  pub holding_place : find u (holding w u h).facility.places ≡ Some h
   holding_place = give-own u _ h w.facility.places (has_place (find u w.facility.places) active)
 
   pub holding_sides : sides_of u (holding w u h) ≡ h

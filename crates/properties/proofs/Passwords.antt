@@ -4,18 +4,18 @@ use Rattle.std.proofs.Common.{sym, ap₂, ◌∙◌, true≢false, arith, eqb-tr
 use Rattle.std.proofs.Math.Path.{ap, subst}
 use Rattle.std.proofs.Math.Bool.{true, cond, not}
 use Rattle.std.proofs.lemmas.Bool.{false≢true}
-use Rattle.std.proofs.Math.Option.{none, some}
+use Rattle.std.specs.Prelude.{None, Some}
 use Rattle.ground.specs.Search.{by_test}
 use Rattle.cipher.specs.Cipher.{Octets, deciphered}
 use Rattle.cipher.proofs.Promise.{deciphered-enciphered}
 use Rattle.keys.specs.Keys.{notarized}
 use Rattle.state.specs.declared.Holdings.{Holdings}
 use Rattle.state.specs.declared.Place.{Place}
-use Rattle.state.specs.State.{Bytes, bare, seat, has, find, all_taken, admit, give, seat_of, shut_to}
+use Rattle.state.specs.State.{Bytes, bare, seat, has, find, all_taken, admit, give, shut_to}
 use Rattle.table.specs.Entries.{fits, entry_of, enrolled}
 use Rattle.table.specs.Passwords.{big, sealed, same, authentic}
 use Rattle.table.proofs.Laws.{sealed_eight}
-use Rattle.rules.specs.World.{World, over, key1}
+use Rattle.rules.specs.World.{seat_of, World, over, key1}
 use Rattle.rules.specs.Refusals.{lacks_entry, first_of}
 use Rattle.rules.specs.Commands.{RAS, CPW, by, IPW, tests, refusals, effect}
 use Rattle.rules.specs.Step.{number_of, step}
@@ -85,19 +85,19 @@ ipw_stands w u p out done =
 
 -- ---- RAS and CPW where a password stands
 
-admit-own : (u : ℕ) (h : Holdings) (ps : List Place) → find u ps ≡ none → all_taken ps ≡ false → find u (admit (seat u h) ps) ≡ some h
+admit-own : (u : ℕ) (h : Holdings) (ps : List Place) → find u ps ≡ None → all_taken ps ≡ false → find u (admit (seat u h) ps) ≡ Some h
 admit-own u h [] e f = absurd (true≢false f)
 admit-own u h (p ∷ ps) e f =
     by_test p.taken
     (λ t. by_test (has u p)
-    (λ m. absurd (none_not_some (sym e ∙ ap (λ (b : Bool). cond b (some p.holdings) (find u ps)) m)))
+    (λ m. absurd (none_not_some (sym e ∙ ap (λ (b : Bool). cond b (Some p.holdings) (find u ps)) m)))
     (λ m.
     ap (λ (b : Bool). find u (cond b (p ∷ admit (seat u h) ps) (seat u h ∷ ps))) t
-    ∙ ap (λ (b : Bool). cond b (some p.holdings) (find u (admit (seat u h) ps))) m
-    ∙ admit-own u h ps (sym (ap (λ (b : Bool). cond b (some p.holdings) (find u ps)) m) ∙ e) (sym (ap (λ (b : Bool). cond b (all_taken ps) false) t) ∙ f)))
+    ∙ ap (λ (b : Bool). cond b (Some p.holdings) (find u (admit (seat u h) ps))) m
+    ∙ admit-own u h ps (sym (ap (λ (b : Bool). cond b (Some p.holdings) (find u ps)) m) ∙ e) (sym (ap (λ (b : Bool). cond b (all_taken ps) false) t) ∙ f)))
     (λ t.
     ap (λ (b : Bool). find u (cond b (p ∷ admit (seat u h) ps) (seat u h ∷ ps))) t
-    ∙ ap (λ (b : Bool). cond b (some h) (find u ps)) (eq-eqb u u refl))
+    ∙ ap (λ (b : Bool). cond b (Some h) (find u ps)) (eq-eqb u u refl))
 
 module _ (w : World) (u : ℕ) (p out : Bytes) (stands : Stands w u p) where
   wrong_no_more : not (authenticates w u p) ≡ false
@@ -172,7 +172,7 @@ module _ (w : World) (u : ℕ) (p out : Bytes) (done : Performed w (IPW u p) out
   after = (step w (IPW u p) out).world
 
   -- u's entry is the password enciphered under current key 1 notarized with (u, u)
-  pub ipw-entry : entry_of u after.table ≡ some (sealed (key1 after) u p)
+  pub ipw-entry : entry_of u after.table ≡ Some (sealed (key1 after) u p)
   ipw-entry = (ipw_stands w u p out done).entry
 
   -- with it neither RAS nor CPW is ever answered 9

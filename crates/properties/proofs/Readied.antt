@@ -10,11 +10,11 @@ use Rattle.ground.specs.Lists.{Below, listed}
 use Rattle.cipher.specs.declared.modes.Mode.{Mode}
 use Rattle.cipher.specs.declared.modes.Mode.TheVariants.{Ecbe, Ecbd, Cbce, Cbcd, Cfbe, Cfbd}
 use Rattle.keys.specs.Keys.{odd, parity_of}
-use Rattle.state.specs.State.{Bytes, bare, find, give, seat_of, with_places, named, key_at, rekeyed}
+use Rattle.state.specs.State.{Bytes, bare, find, give, with_places, named, key_at, rekeyed}
 use Rattle.table.specs.Entries.{fits, id_of, entry_in, entry_of, enrol_in, enrolled}
 use Rattle.table.specs.Passwords.{big, same, sealed}
 use Rattle.table.proofs.Laws.{sealed_eight}
-use Rattle.rules.specs.World.{World, over, key1}
+use Rattle.rules.specs.World.{seat_of, World, over, key1}
 use Rattle.rules.specs.Refusals.{first_of, test, of_own, lacks_entry}
 use Rattle.rules.specs.Commands.{by, EIK, IPW, RAS, tests, effect, keyed}
 use Rattle.rules.specs.Step.{step}
@@ -116,8 +116,8 @@ module _ (out out' : Bytes) (room : 16 ≤ length out) (room' : 16 ≤ length ou
             record {
               current = ap (λ x. (key_at 3 x.facility.current_keys).present) G_is;
               alike =
-                  ap (λ x. parity_of (key_at 3 x.facility.current_keys).key.0) G_is
-                  ∙ sym (ap (λ x. parity_of (key_at 2 x.facility.current_keys).key.0) F_is);
+                  ap (λ x. parity_of (key_at 3 x.facility.current_keys).value.0) G_is
+                  ∙ sym (ap (λ x. parity_of (key_at 2 x.facility.current_keys).value.0) F_is);
             };
         brought = brought;
       }

@@ -3,7 +3,7 @@ use Rattle.std.specs.Prelude.{◌≡◌, Bool, not, ◌++◌, eqb}
 use Rattle.std.proofs.Math.Path.{refl, sym, ap}
 use Rattle.std.proofs.Common.{◌∙◌, subst, true≢false, append_assoc, arith, lit<, drop-drop, length-take-le, eqb-true}
 use Rattle.std.proofs.Math.Bool.{true, false, cond}
-use Rattle.std.proofs.Math.Option.{Option, none, some}
+use Rattle.std.specs.Prelude.{Option, None, Some}
 use Prim.Native.Nat.{ℕ, zero, suc, ◌+◌, ◌*◌, ◌/◌, ◌≤◌, ◌<◌}
 use Rattle.std.proofs.Math.ListN.{length, take, drop, length-append, length-drop}
 use Rattle.std.proofs.Math.Seq.{take_at, drop_at}
@@ -16,11 +16,10 @@ use Rattle.state.specs.State.{Bytes, key_at}
 use Rattle.table.specs.Entries.{fits, id_of, entry_in, entry_of}
 use Rattle.table.specs.Passwords.{big, sealed, same, authentic, moved_entry, moved_in, moved}
 use Rattle.table.proofs.Laws.{moved_twelve}
-use Rattle.rules.specs.declared.Answer.TheVariants.{Refused}
 use Rattle.rules.specs.World.{World, over, key1}
 use Rattle.rules.specs.Refusals.{test, first_of, out_of_turn}
 use Rattle.rules.specs.Commands.{RPW, tests, undue}
-use Rattle.rules.specs.Step.{plain, result, step, settled}
+use Rattle.rules.specs.Step.{Refused, plain, result, step, settled}
 use Rattle.properties.specs.Steps.{Performed}
 use Rattle.properties.proofs.Steps.{settled-first, settled-done, next, not_false}
 use Rattle.properties.specs.Passwords.{authenticates}
@@ -53,8 +52,8 @@ module _ (i x r : Bytes) (four : length i ≡ 4) (eight : length x ≡ 8) where
 module _ (a k : Bytes) where
   -- u's password kept, under the new key; an identifier that is no user's keeps its bytes
   abbrev pub resealed : ℕ → Option Bytes → Option Bytes
-  resealed u none = none
-  resealed u (some b) = some (cond (big u) b (sealed k u (deciphered (notarized a u u) b)))
+  resealed u None = None
+  resealed u (Some b) = Some (cond (big u) b (sealed k u (deciphered (notarized a u u) b)))
 
   -- the eight bytes of the first entry, moved
   abbrev new_bytes : Bytes → Bytes
@@ -74,8 +73,8 @@ module _ (a k : Bytes) where
     shorter : n * 12 ≤ length (drop 12 t)
     shorter = omega (arith, length-drop 12 t)
 
-    mine : (u : ℕ) → eqb u (id_of t) ≡ true → some (new_bytes t) ≡ resealed u (some (take 8 (drop 4 t)))
-    mine u e = ap (λ (i : ℕ). some (cond (big i) (take 8 (drop 4 t)) (sealed k i (deciphered (notarized a i i) (take 8 (drop 4 t)))))) (sym (eqb-true u (id_of t) e))
+    mine : (u : ℕ) → eqb u (id_of t) ≡ true → Some (new_bytes t) ≡ resealed u (Some (take 8 (drop 4 t)))
+    mine u e = ap (λ (i : ℕ). Some (cond (big i) (take 8 (drop 4 t)) (sealed k i (deciphered (notarized a i i) (take 8 (drop 4 t)))))) (sym (eqb-true u (id_of t) e))
 
   moved_in_lem : (u n : ℕ) (t : Bytes) → n * 12 ≤ length t → entry_in n u (moved_in n a k t) ≡ resealed u (entry_in n u t)
   unfolding entry_in moved_in moved_entry id_of
@@ -131,9 +130,9 @@ unfolding entry_in
 held_in u zero t l b = tt
 held_in u (suc n) t l b =
     by_test (eqb u (id_of t))
-    (λ e. subst (λ (x : Bool). Held (cond x (some (take 8 (drop 4 t))) (entry_in n u (drop 12 t)))) (sym e)
+    (λ e. subst (λ (x : Bool). Held (cond x (Some (take 8 (drop 4 t))) (entry_in n u (drop 12 t)))) (sym e)
     (record { eight = length-take-le 8 (drop 4 t) (omega (arith, length-drop 4 t)); small = below_take 256 8 (drop 4 t) (lit< tt) (below_drop 256 4 t b) }))
-    (λ e. subst (λ (x : Bool). Held (cond x (some (take 8 (drop 4 t))) (entry_in n u (drop 12 t)))) (sym e)
+    (λ e. subst (λ (x : Bool). Held (cond x (Some (take 8 (drop 4 t))) (entry_in n u (drop 12 t)))) (sym e)
     (held_in u n (drop 12 t) (omega (arith, length-drop 12 t)) (below_drop 256 12 t b)))
 
 held : (u : ℕ) (t : Bytes) → Below 256 t → Held (entry_of u t)
@@ -143,8 +142,8 @@ held u t b = held_in u (length t / 12) t (omega arith) b
 -- the moved entry holds the password p under the key k exactly if the entry held it under the key a
 kept : (a k : Bytes) (u : ℕ) (p : Bytes) (o : Option Bytes) → big u ≡ false → Octets p → Held o → authentic k u p (resealed a k u o) ≡ authentic a u p o
 unfolding authentic sealed
-kept a k u p none s q h = refl
-kept a k u p (some b) s q h =
+kept a k u p None s q h = refl
+kept a k u p (Some b) s q h =
     let n = notarized a u u in
     let m = notarized k u u in
     ap (λ (x : Bool). same (cond x b (enciphered m (deciphered n b))) (enciphered m p)) s

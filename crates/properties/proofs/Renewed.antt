@@ -29,4 +29,4 @@ module _ (E : World) (p : ℕ) (k out : Bytes) (entered : Performed E (EIK p k) 
       generated_moved E renewed p p i j bits out' x
       (ap (λ c. c.present) keys.current)
       (ap (λ c. c.present) keys.old ∙ had)
-      (ap (λ c. parity_of c.key.0) keys.old)
+      (ap (λ c. parity_of c.value.0) keys.old)

@@ -1,5 +1,5 @@
 -- A table in which one entry that is not looked for is another: the same entry is found, the same entry is altered, and the other entry stays.
-use Rattle.std.specs.Prelude.{◌≡◌, refl, true, false, cond, ◌++◌, eqb}
+use Rattle.std.specs.Prelude.{is_some, ◌≡◌, refl, true, false, cond, ◌++◌, eqb}
 use Rattle.std.proofs.Math.Path.{sym, ap, ap₂}
 use Rattle.std.proofs.Common.{◌∙◌, append_assoc, drop_at, take-add, drop-drop}
 use Prim.Native.Nat.{ℕ, zero, suc, ◌+◌, ◌*◌, ◌/◌, ◌≤◌, ◌<◌}
@@ -10,9 +10,8 @@ use Rattle.std.proofs.lemmas.List.{take-append-le}
 use Rattle.ground.specs.Search.{by_test}
 use Rattle.ground.specs.Rows.{row, digits, digits-length}
 use Rattle.state.specs.State.{Bytes}
-use Rattle.table.specs.Entries.{free_id, is_some, id_of, entry_in, enter_in, entry_of, enter, enrol_in, enrolled}
+use Rattle.table.specs.Entries.{free_id, id_at, id_of, entry_in, enter_in, entry_of, enter, enrol_in, enrolled}
 use Rattle.table.specs.Passwords.{big, moved_entry, moved_in, moved}
-use Rattle.table.specs.Located.{id_at}
 use Rattle.table.proofs.Laws.{moved_twelve}
 use Rattle.properties.proofs.Tables.{stay_first, stay_id, stay_entry, stay_rest, first, rest}
 use Rattle.properties.specs.Replaced.{entry_at, replaced}

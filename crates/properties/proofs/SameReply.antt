@@ -3,22 +3,21 @@ use Rattle.std.specs.Prelude.{◌≡◌, Bool, false, not, ℕ, eqb, length}
 use Rattle.std.proofs.Math.Path.{refl, sym, ap}
 use Rattle.std.proofs.Common.{ap₂, ◌∙◌}
 use Rattle.std.proofs.Math.Bool.{cond}
-use Rattle.std.proofs.Math.Option.{none}
+use Rattle.std.specs.Prelude.{None}
 use Rattle.ground.specs.Search.{by_test}
 use Rattle.state.specs.declared.Facility.{Facility}
-use Rattle.state.specs.State.{Bytes, find, seat_of, key_at}
+use Rattle.state.specs.State.{Bytes, find, key_at}
 use Rattle.table.specs.Entries.{fits, entry_of}
 use Rattle.table.specs.Passwords.{big, authentic}
-use Rattle.rules.specs.declared.Answer.TheVariants.{Done, Refused}
-use Rattle.rules.specs.World.{World, over, own, shut_for, key1}
+use Rattle.rules.specs.World.{seat_of, World, over, own, shut_for, key1}
 use Rattle.rules.specs.Refusals.{test}
 use Rattle.rules.specs.Commands.{UserCommand, RAS, CPW, by, Effect, refused, refusals, effect}
-use Rattle.rules.specs.Step.{Told, told, plain, ruled, rule, step}
+use Rattle.rules.specs.Step.{Done, Refused, Told, told, plain, ruled, rule, step}
 use Rattle.properties.specs.Steps.{list_of}
 use Rattle.properties.specs.Passwords.{authenticates}
 
 -- who is not in the table is not authenticated, whatever the password
-pub not_in_table : (w : World) (u : ℕ) (p : Bytes) → entry_of u w.table ≡ none → authenticates w u p ≡ false
+pub not_in_table : (w : World) (u : ℕ) (p : Bytes) → entry_of u w.table ≡ None → authenticates w u p ≡ false
 unfolding authentic
 not_in_table w u p e = ap (authentic (key1 w) u p) e
 

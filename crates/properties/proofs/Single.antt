@@ -3,7 +3,7 @@ use Rattle.std.specs.Prelude.{◌≡◌, Bool, true, false, cond, List, [], ◌�
 use Rattle.std.proofs.Math.Path.{refl}
 use Rattle.std.proofs.Common.{sym, ap, ◌∙◌, subst, arith, eqb-true}
 use Rattle.std.proofs.lemmas.Bool.{false≢true}
-use Rattle.std.proofs.Math.Option.{Option, none, some}
+use Rattle.std.specs.Prelude.{Option, None, Some}
 use Rattle.ground.specs.Search.{by_test}
 use Rattle.state.specs.declared.Holdings.{Holdings}
 use Rattle.state.specs.declared.Place.{Place}
@@ -11,8 +11,7 @@ use Rattle.state.specs.State.{Bytes, has, seat, vacant, find, put, admit, give, 
 use Rattle.rules.specs.World.{World, over}
 use Rattle.rules.specs.Refusals.{first_of}
 use Rattle.rules.specs.Commands.{Command, by, EIK, IPW, RPW, logout, LAU, Effect, refused, gives, keeps, leaves, enters, writes, tests, keyed, undue}
-use Rattle.rules.specs.Step.{carry, rule_in, result, plain, step, settled}
-use Rattle.rules.specs.declared.Answer.TheVariants.{Done, Refused}
+use Rattle.rules.specs.Step.{Done, Refused, carry, rule_in, result, plain, step, settled}
 use Rattle.table.specs.Entries.{enrolled}
 use Rattle.table.specs.Passwords.{sealed, moved}
 use Rattle.properties.specs.Single.{count, Single}
@@ -72,14 +71,14 @@ count-admit v x (p ∷ ps) =
     subst (λ (b : Bool). count v (cond b (p ∷ admit x ps) (x ∷ ps)) ≤ cond (has v x) (suc (count v (p ∷ ps))) (count v (p ∷ ps))) (sym f)
     (subst (λ (k : ℕ). count v (x ∷ ps) ≤ cond (has v x) (suc k) k) (sym e) (omega arith)))
 
-nowhere : (u : ℕ) (ps : List Place) → find u ps ≡ none → count u ps ≡ 0
+nowhere : (u : ℕ) (ps : List Place) → find u ps ≡ None → count u ps ≡ 0
 nowhere u [] e = refl
 nowhere u (p ∷ ps) e =
     by_test (has u p)
-    (λ t. absurd (let z : ◌≡◌ {A = ℕ} 0 1 = never (sym (ap (λ (b : Bool). cond b (some p.holdings) (find u ps)) t) ∙ e) in omega arith))
-    (λ f. ap (λ (b : Bool). cond b (suc (count u ps)) (count u ps)) f ∙ nowhere u ps (sym (ap (λ (b : Bool). cond b (some p.holdings) (find u ps)) f) ∙ e))
+    (λ t. absurd (let z : ◌≡◌ {A = ℕ} 0 1 = never (sym (ap (λ (b : Bool). cond b (Some p.holdings) (find u ps)) t) ∙ e) in omega arith))
+    (λ f. ap (λ (b : Bool). cond b (suc (count u ps)) (count u ps)) f ∙ nowhere u ps (sym (ap (λ (b : Bool). cond b (Some p.holdings) (find u ps)) f) ∙ e))
   where
-    never : some p.holdings ≡ none → ◌≡◌ {A = ℕ} 0 1
+    never : Some p.holdings ≡ None → ◌≡◌ {A = ℕ} 0 1
     never q = cc
 
 -- ---- every command
@@ -91,7 +90,7 @@ module _ (v n : ℕ) (one : 1 ≤ n) where
   AtMost ps = count v ps ≤ n
 
   given : (o : Option Holdings) (u : ℕ) (h : Holdings) (ps : List Place) → find u ps ≡ o → AtMost ps → AtMost (give_to o u h ps)
-  given none u h ps e s =
+  given None u h ps e s =
       by_test (eqb v u)
       (λ t.
       let z : count v ps ≡ 0 = ap (λ (i : ℕ). count i ps) (eqb-true v u t) ∙ nowhere u ps e in
@@ -100,7 +99,7 @@ module _ (v n : ℕ) (one : 1 ≤ n) where
       (λ f.
       let a : count v (admit (seat u h) ps) ≤ count v ps = subst (λ (b : Bool). count v (admit (seat u h) ps) ≤ cond b (suc (count v ps)) (count v ps)) f (count-admit v (seat u h) ps) in
       omega arith)
-  given (some g) u h ps e s = subst (λ (k : ℕ). k ≤ n) (sym (count-put v u h ps)) s
+  given (Some g) u h ps e s = subst (λ (k : ℕ). k ≤ n) (sym (count-put v u h ps)) s
 
   carried : (u : ℕ) (e : Effect) (w : World) → AtMost w.facility.places → AtMost (carry u e w).facility.places
   unfolding give leave
@@ -124,10 +123,10 @@ module _ (v n : ℕ) (one : 1 ≤ n) where
   at_most w (by u c) out s = carried u (rule_in w u c out) w s
   at_most w (EIK i k) out s = officers (first_of (tests (EIK i k) w out)) w (over (keyed i k w.facility) w.table) out s refl
   at_most w (IPW u p) out s =
-      officers (first_of (tests (IPW u p) w out)) w (over w.facility (enrolled u (sealed (key_at 1 w.facility.current_keys).key.0 u p) w.table)) out s refl
+      officers (first_of (tests (IPW u p) w out)) w (over w.facility (enrolled u (sealed (key_at 1 w.facility.current_keys).value.0 u p) w.table)) out s refl
   at_most w RPW out s =
       officers (first_of (tests RPW w out)) w
-      (over (undue w.facility) (moved (key_at 1 w.facility.old_keys).key.0 (key_at 1 w.facility.current_keys).key.0 w.table)) out s refl
+      (over (undue w.facility) (moved (key_at 1 w.facility.old_keys).value.0 (key_at 1 w.facility.current_keys).value.0 w.table)) out s refl
   at_most w (logout u) out s = carried u (rule_in w u LAU out) w s
 
 -- one place at most stays one at most

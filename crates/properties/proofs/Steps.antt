@@ -3,7 +3,7 @@ use Rattle.std.specs.Prelude.{◌≡◌, refl, true, false, cond, not, List, [],
 use Rattle.std.proofs.Math.Path.{sym, ap}
 use Rattle.std.proofs.Common.{◌∙◌, subst, true≢false, arith}
 use Rattle.std.proofs.Math.Bool.{Bool}
-use Rattle.std.proofs.Math.Option.{none, some}
+use Rattle.std.specs.Prelude.{None, Some}
 use Prim.Native.Nat.{ℕ}
 use borrow.Author.Tests.{eqb-true, eqb-false, eq-eqb}
 use Rattle.ground.specs.Search.{by_test}
@@ -11,11 +11,10 @@ use Rattle.state.specs.declared.Holdings.{Holdings}
 use Rattle.state.specs.declared.Place.{Place}
 use Rattle.state.specs.State.{Bytes, has, seat, find, put, give}
 use Rattle.table.specs.Passwords.{big}
-use Rattle.rules.specs.declared.Answer.TheVariants.{Done, Refused}
 use Rattle.rules.specs.World.{World, own}
 use Rattle.rules.specs.Refusals.{test, big_pair}
 use Rattle.rules.specs.Commands.{UserCommand, by, refused, effect}
-use Rattle.rules.specs.Step.{result, told, plain, carry, number_of, rule, step, settled}
+use Rattle.rules.specs.Step.{Done, Refused, result, told, plain, carry, number_of, rule, step, settled}
 use Rattle.rules.proofs.Laws.{passed}
 use Rattle.properties.specs.Steps.{list_of, Accepted}
 
@@ -78,7 +77,7 @@ unfolding big_pair
 small_pair i j a b = ap (λ (x : Bool). cond x true (big j)) a ∙ b
 
 -- none is not some
-pub none_not_some : {A : Type 0} {a : A} → none ≡ some a → ⊥
+pub none_not_some : {A : Type 0} {a : A} → None ≡ Some a → ⊥
 none_not_some q = let z : ◌≡◌ {A = ℕ} 0 1 = cc in omega arith
 
 -- ---- what a user holds after it was given to him
@@ -86,18 +85,18 @@ none_not_some q = let z : ◌≡◌ {A = ℕ} 0 1 = cc in omega arith
 has-seat : (u : ℕ) (h : Holdings) → has u (seat u h) ≡ true
 has-seat u h = eq-eqb u u refl
 
-pub put-own : (u : ℕ) (h h' : Holdings) (ps : List Place) → find u ps ≡ some h → find u (put u (seat u h') ps) ≡ some h'
+pub put-own : (u : ℕ) (h h' : Holdings) (ps : List Place) → find u ps ≡ Some h → find u (put u (seat u h') ps) ≡ Some h'
 put-own u h h' [] e = absurd (none_not_some e)
 put-own u h h' (p ∷ ps) e =
     by_test (has u p)
     (λ t.
     ap (λ (b : Bool). find u (cond b (seat u h' ∷ ps) (p ∷ put u (seat u h') ps))) t
-    ∙ ap (λ (b : Bool). cond b (some h') (find u ps)) (has-seat u h'))
+    ∙ ap (λ (b : Bool). cond b (Some h') (find u ps)) (has-seat u h'))
     (λ f.
     ap (λ (b : Bool). find u (cond b (seat u h' ∷ ps) (p ∷ put u (seat u h') ps))) f
-    ∙ ap (λ (b : Bool). cond b (some p.holdings) (find u (put u (seat u h') ps))) f
-    ∙ put-own u h h' ps (sym (ap (λ (b : Bool). cond b (some p.holdings) (find u ps)) f) ∙ e))
+    ∙ ap (λ (b : Bool). cond b (Some p.holdings) (find u (put u (seat u h') ps))) f
+    ∙ put-own u h h' ps (sym (ap (λ (b : Bool). cond b (Some p.holdings) (find u ps)) f) ∙ e))
 
-pub give-own : (u : ℕ) (h h' : Holdings) (ps : List Place) → find u ps ≡ some h → find u (give u h' ps) ≡ some h'
+pub give-own : (u : ℕ) (h h' : Holdings) (ps : List Place) → find u ps ≡ Some h → find u (give u h' ps) ≡ Some h'
 unfolding give
 give-own u h h' ps e = rw e (put-own u h h' ps e)

@@ -4,7 +4,7 @@ use Rattle.std.proofs.Common.{sym, ap₂, ◌∙◌, arith, eqb-true}
 use Rattle.std.proofs.Math.Path.{ap}
 use Rattle.std.proofs.Math.Bool.{Bool}
 use Rattle.std.proofs.lemmas.Bool.{false≢true}
-use Rattle.std.proofs.Math.Option.{Option, none, some}
+use Rattle.std.specs.Prelude.{Option, None, Some}
 use mathlib.Core.List.{List, [], ◌∷◌}
 use Rattle.ground.specs.Search.{by_test}
 use Rattle.cipher.specs.declared.keys.Vector.{Vector}
@@ -12,8 +12,8 @@ use Rattle.cipher.specs.declared.modes.Mode.{Mode}
 use Rattle.cipher.specs.declared.modes.Mode.TheVariants.{Ecbe, Ecbd}
 use Rattle.state.specs.declared.Holdings.{Holdings}
 use Rattle.state.specs.declared.Place.{Place}
-use Rattle.state.specs.State.{Bytes, has, seat, find, put, give, give_to, seat_of, with_places}
-use Rattle.rules.specs.World.{World, over, own, shut_for}
+use Rattle.state.specs.State.{Bytes, has, seat, find, put, give, give_to, with_places}
+use Rattle.rules.specs.World.{seat_of, World, over, own, shut_for}
 use Rattle.rules.specs.Sides.{after_mode}
 use Rattle.rules.specs.Commands.{UserCommand, by, mode, DAUT, refused, refusals, effect}
 use Rattle.rules.specs.Step.{step, carry, rule}
@@ -35,15 +35,15 @@ put_still : (u : ℕ) (ps : List Place) → put u (seat u (seat_of (find u ps)).
 unfolding seat_of
 put_still u [] = refl
 put_still u (p ∷ ps) =
-    let again : Bool → List Place = λ b. let x = seat u (seat_of (cond b (some p.holdings) (find u ps))).holdings in cond b (x ∷ ps) (p ∷ put u x ps) in
+    let again : Bool → List Place = λ b. let x = seat u (seat_of (cond b (Some p.holdings) (find u ps))).holdings in cond b (x ∷ ps) (p ∷ put u x ps) in
     by_test (has u p)
     (λ t. ap again t ∙ ap (λ (x : Place). x ∷ ps) (own-seat u p t))
     (λ f. ap again f ∙ ap (λ (l : List Place). p ∷ l) (put_still u ps))
 
 to_active : (o : Option Holdings) (u : ℕ) (h : Holdings) (ps : List Place) → (seat_of o).active ≡ true → give_to o u h ps ≡ put u (seat u h) ps
 unfolding seat_of
-to_active none u h ps a = absurd (false≢true a)
-to_active (some g) u h ps a = refl
+to_active None u h ps a = absurd (false≢true a)
+to_active (Some g) u h ps a = refl
 
 give_still : (u : ℕ) (ps : List Place) → (seat_of (find u ps)).active ≡ true → give u (seat_of (find u ps)).holdings ps ≡ ps
 unfolding give

@@ -1,10 +1,10 @@
 -- The password table after an entry was altered: what each identifier's entry then is.
 use Rattle.std.proofs.Math.Path.{◌≡◌, refl, sym, ap, subst}
 use Rattle.std.proofs.Common.{◌∙◌, true≢false, append_assoc, arith, take_at, drop_at, length-take-le, take-take, take-add}
-use Rattle.std.specs.Prelude.{Bool, not, ◌++◌, take}
+use Rattle.std.specs.Prelude.{is_some, Bool, not, ◌++◌, take}
 use Rattle.std.proofs.Math.Bool.{true, false, cond}
 use Rattle.std.proofs.lemmas.Bool.{false≢true}
-use Rattle.std.proofs.Math.Option.{Option, none, some}
+use Rattle.std.specs.Prelude.{Option, None, Some}
 use Prim.Native.Nat.{ℕ, zero, suc, ◌*◌, ◌/◌, ◌≤◌, ◌<◌}
 use Rattle.std.proofs.Math.Dec.{eqb}
 use Rattle.std.proofs.Math.ListN.{length, drop, length-append, length-drop}
@@ -13,7 +13,7 @@ use borrow.Author.Tests.{eqb-true, eq-eqb}
 use Rattle.ground.specs.Search.{by_test}
 use Rattle.ground.specs.Rows.{row, digits, digits-length, row-digits}
 use Rattle.state.specs.State.{Bytes}
-use Rattle.table.specs.Entries.{free_id, is_some, id_of, entry_in, enter_in, entry_of, enter, enrol_in, enrolled}
+use Rattle.table.specs.Entries.{free_id, id_of, entry_in, enter_in, entry_of, enter, enrol_in, enrolled}
 use Rattle.rules.specs.Refusals.{lacks_entry}
 use Rattle.properties.proofs.Steps.{not_false}
 use Rattle.properties.specs.Tables.{become}
@@ -107,7 +107,7 @@ module _ (u : ℕ) (b t : Bytes) (eight : length b ≡ 8) where
 
 module _ (u : ℕ) (b : Bytes) (eight : length b ≡ 8) (small : u < 4294967295) where
   -- a user with no entry gets the first free one
-  pub enrol_mine : (n : ℕ) (t : Bytes) → n * 12 ≤ length t → entry_in n u t ≡ none → is_some (entry_in n free_id t) ≡ true → entry_in n u (enrol_in n u b t) ≡ some b
+  pub enrol_mine : (n : ℕ) (t : Bytes) → n * 12 ≤ length t → entry_in n u t ≡ None → is_some (entry_in n free_id t) ≡ true → entry_in n u (enrol_in n u b t) ≡ Some b
   unfolding entry_in enrol_in id_of
   enrol_mine zero t l e f = absurd (false≢true f)
   enrol_mine (suc n) t l e f =
@@ -118,17 +118,17 @@ module _ (u : ℕ) (b : Bytes) (eight : length b ≡ 8) (small : u < 4294967295)
       (λ g.
       let r = enrol_in n u b (drop 12 t) in
       let k : eqb u (id_of t) ≡ false = mine-not e in
-      let f' : is_some (entry_in n free_id (drop 12 t)) ≡ true = sym (ap (λ (x : Bool). is_some (cond x (some (take 8 (drop 4 t))) (entry_in n free_id (drop 12 t)))) g) ∙ f in
-      let e' : entry_in n u (drop 12 t) ≡ none = sym (ap (λ (x : Bool). cond x (some (take 8 (drop 4 t))) (entry_in n u (drop 12 t))) k) ∙ e in
+      let f' : is_some (entry_in n free_id (drop 12 t)) ≡ true = sym (ap (λ (x : Bool). is_some (cond x (Some (take 8 (drop 4 t))) (entry_in n free_id (drop 12 t)))) g) ∙ f in
+      let e' : entry_in n u (drop 12 t) ≡ None = sym (ap (λ (x : Bool). cond x (Some (take 8 (drop 4 t))) (entry_in n u (drop 12 t))) k) ∙ e in
       rw (g, stay_id t r (first n t l), k, stay_rest t r (first n t l)) (enrol_mine n (drop 12 t) (rest n t l) e' f'))
     where
-      never : {x : Bytes} → some x ≡ none → ◌≡◌ {A = ℕ} 0 1
+      never : {x : Bytes} → Some x ≡ None → ◌≡◌ {A = ℕ} 0 1
       never q = cc
 
-      mine-not : cond (eqb u (id_of t)) (some (take 8 (drop 4 t))) (entry_in n u (drop 12 t)) ≡ none → eqb u (id_of t) ≡ false
+      mine-not : cond (eqb u (id_of t)) (Some (take 8 (drop 4 t))) (entry_in n u (drop 12 t)) ≡ None → eqb u (id_of t) ≡ false
       mine-not q =
           by_test (eqb u (id_of t))
-          (λ y. absurd (let z : ◌≡◌ {A = ℕ} 0 1 = never (sym (ap (λ (x : Bool). cond x (some (take 8 (drop 4 t))) (entry_in n u (drop 12 t))) y) ∙ q) in omega arith))
+          (λ y. absurd (let z : ◌≡◌ {A = ℕ} 0 1 = never (sym (ap (λ (x : Bool). cond x (Some (take 8 (drop 4 t))) (entry_in n u (drop 12 t))) y) ∙ q) in omega arith))
           (λ z. z)
 
   -- another's entry stays, unless it is the free one
@@ -161,13 +161,13 @@ module _ (u : ℕ) (b : Bytes) (eight : length b ≡ 8) (small : u < 4294967295)
 within : (t : Bytes) → length t / 12 * 12 ≤ length t
 within t = omega arith
 
-was_none : (o : Option Bytes) → is_some o ≡ false → o ≡ none
-was_none none e = refl
-was_none (some a) e = absurd (true≢false e)
+was_none : (o : Option Bytes) → is_some o ≡ false → o ≡ None
+was_none None e = refl
+was_none (Some a) e = absurd (true≢false e)
 
-became : (b : Bytes) (o : Option Bytes) → is_some o ≡ true → become b o ≡ some b
-became b none e = absurd (false≢true e)
-became b (some a) e = refl
+became : (b : Bytes) (o : Option Bytes) → is_some o ≡ true → become b o ≡ Some b
+became b None e = absurd (false≢true e)
+became b (Some a) e = refl
 
 module _ (u : ℕ) (b t : Bytes) (eight : length b ≡ 8) where
   pub enter_size : length (enter u b t) ≡ length t
@@ -183,14 +183,14 @@ module _ (u : ℕ) (b t : Bytes) (eight : length b ≡ 8) where
     unfolding enrolled
     enrolled_size = by_test (is_some (entry_of u t)) (λ e. rw e enter_size) (λ e. rw e (enrol_length u b eight small (length t / 12) t (within t)))
 
-    enrol_own : entry_of u t ≡ none → is_some (entry_of free_id t) ≡ true → entry_of u (enrol_in (length t / 12) u b t) ≡ some b
+    enrol_own : entry_of u t ≡ None → is_some (entry_of free_id t) ≡ true → entry_of u (enrol_in (length t / 12) u b t) ≡ Some b
     unfolding entry_of
     enrol_own e f =
         ap (λ (n : ℕ). entry_in (n / 12) u (enrol_in (length t / 12) u b t)) (enrol_length u b eight small (length t / 12) t (within t))
         ∙ enrol_mine u b eight small (length t / 12) t (within t) e f
 
     -- IPW's condition 15 fails: u's entry is then b
-    pub enrolled-own : lacks_entry u t ≡ false → entry_of u (enrolled u b t) ≡ some b
+    pub enrolled-own : lacks_entry u t ≡ false → entry_of u (enrolled u b t) ≡ Some b
     unfolding enrolled lacks_entry
     enrolled-own h =
         by_test (is_some (entry_of u t))

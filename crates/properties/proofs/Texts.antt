@@ -2,7 +2,7 @@
 use Rattle.std.specs.Prelude.{◌≡◌, not, ◌++◌, ℕ, zero, suc, ◌*◌, ◌/◌, ◌%◌, ◌≤◌, length, drop}
 use Rattle.std.proofs.Common.{sym, ◌∙◌, subst, arith, lit<, length-drop, take-append-drop, take_at, length-take-le, le-ltb}
 use Rattle.std.proofs.Math.Path.{ap, ap₂}
-use Rattle.std.proofs.Math.Option.{Option, some}
+use Rattle.std.specs.Prelude.{Option, Some}
 use Rattle.std.proofs.Math.ListN.{take}
 use Rattle.cipher.specs.Cipher.{Octets, Whole, Way, ECB, CBC, CFB, enciphering, deciphering, enciphered, mode_text, mode_vector, fixity, onto}
 use Rattle.cipher.specs.declared.modes.Mode.{Mode}
@@ -10,13 +10,12 @@ use Rattle.cipher.specs.declared.modes.Mode.TheVariants.{Ecbe}
 use Rattle.cipher.proofs.Promise.{mode_text-length, mode_text_whole, mode_text_join, mode_text_ecbe, mode_text_back, mode_vector_back, mode_vector_octets}
 use Rattle.ground.specs.Lists.{Below, none, below_take, below_drop}
 use Rattle.state.specs.declared.Holdings.{Holdings}
-use Rattle.state.specs.State.{Bytes, find, seat_of}
-use Rattle.rules.specs.declared.Answer.TheVariants.{Wrote}
-use Rattle.rules.specs.World.{World}
+use Rattle.state.specs.State.{Bytes, find}
+use Rattle.rules.specs.World.{seat_of, World}
 use Rattle.rules.specs.Sides.{mode_side, side_for, function_of}
 use Rattle.rules.specs.Refusals.{bad_blocks}
 use Rattle.rules.specs.Commands.{by, mode, DAUT, effect}
-use Rattle.rules.specs.Step.{step, plain}
+use Rattle.rules.specs.Step.{Wrote, step, plain}
 use Rattle.rules.proofs.Laws.{good_blocks}
 use Rattle.properties.specs.Steps.{Accepted}
 use Rattle.properties.proofs.Steps.{accepted_first, done-step, put-own}
@@ -26,23 +25,23 @@ use Rattle.properties.specs.Texts.{Agree, InStep, Ready}
 
 -- ---- what an accepted mode command writes
 
-module _ (F : World) (u : ℕ) (m : Mode) (d out : Bytes) (h : Holdings) (active : find u F.facility.places ≡ some h) (done : Accepted F u (mode m d) out) where
+module _ (F : World) (u : ℕ) (m : Mode) (d out : Bytes) (h : Holdings) (active : find u F.facility.places ≡ Some h) (done : Accepted F u (mode m d) out) where
   pub whole : length d % 8 ≡ 0
   whole = good_blocks (length d) (conditions F u m d out h active done).blocks
 
   unfoldable pub text : Bytes
-  text = mode_text m (mode_side m h).key.key.0 (mode_side m h).vector.vector.0 d
+  text = mode_text m (mode_side m h).key.value.0 (mode_side m h).vector.value.0 d
 
   text-length : length text ≡ length d
   unfolding text
-  text-length = mode_text-length m (mode_side m h).key.key.0 (mode_side m h).vector.vector.0 d whole
+  text-length = mode_text-length m (mode_side m h).key.value.0 (mode_side m h).vector.value.0 d whole
 
   -- its whole answer: it wrote as many bytes as the data has, which are the mode's text over the first bytes of the output, and the reply has none
   pub wrote : (step F (by u (mode m d)) out).answered ≡ plain (Wrote (length d)) (onto text out)
   unfolding effect seat_of text
   wrote =
       ap (λ r. r.answered) (done-step F u (mode m d) out (accepted_first F u (mode m d) out done))
-      ∙ ap (λ (s : Option Holdings). let t = mode_text m (mode_side m (seat_of s).holdings).key.key.0 (mode_side m (seat_of s).holdings).vector.vector.0 d in plain (Wrote (length t)) (onto t out)) active
+      ∙ ap (λ (s : Option Holdings). let t = mode_text m (mode_side m (seat_of s).holdings).key.value.0 (mode_side m (seat_of s).holdings).vector.value.0 d in plain (Wrote (length t)) (onto t out)) active
       ∙ ap (λ (n : ℕ). plain (Wrote n) (onto text out)) text-length
 
   -- its first bytes, as many as the data's, are the mode's text
@@ -96,17 +95,17 @@ module _ (k v v' t : Bytes) (o : Octets v) (o' : Octets v') (u : Whole t) where
 
 -- a, who holds h at F, enciphers the data d; b, who holds g at G, is ready to decipher, and his output has room
 module _ (w : Way) (F G : World) (a b : ℕ) (d out out' : Bytes) (h g : Holdings)
-    (sender : find a F.facility.places ≡ some h) (receiver : find b G.facility.places ≡ some g)
+    (sender : find a F.facility.places ≡ Some h) (receiver : find b G.facility.places ≡ Some g)
     (sides : InStep w h g) (bytes : Below 256 d)
     (sent : Accepted F a (mode (enciphering w) d) out) (ready : Ready (deciphering w) b g) (room : length d ≤ length out') where
   abbrev e-key : Bytes
-  e-key = (mode_side (enciphering w) h).key.key.0
+  e-key = (mode_side (enciphering w) h).key.value.0
 
   abbrev e-vector : Bytes
-  e-vector = (mode_side (enciphering w) h).vector.vector.0
+  e-vector = (mode_side (enciphering w) h).vector.value.0
 
   abbrev d-vector : Bytes
-  d-vector = (mode_side (deciphering w) g).vector.vector.0
+  d-vector = (mode_side (deciphering w) g).vector.value.0
 
   -- what the E command wrote
   pub cipher : Bytes
@@ -156,39 +155,39 @@ module _ (w : Way) (F G : World) (a b : ℕ) (d out out' : Bytes) (h g : Holding
   abbrev pub g_then : Holdings
   g_then = held (deciphering w) g cipher
 
-  sender_then : find a (step F (by a (mode (enciphering w) d)) out).world.facility.places ≡ some h_then
+  sender_then : find a (step F (by a (mode (enciphering w) d)) out).world.facility.places ≡ Some h_then
   sender_then = ap (λ (x : World). find a x.facility.places) (left_world F a (enciphering w) d out h sender e_conditions) ∙ put-own a h h_then F.facility.places sender
 
-  receiver_then : find b (step G (by b (mode (deciphering w) cipher)) out').world.facility.places ≡ some g_then
+  receiver_then : find b (step G (by b (mode (deciphering w) cipher)) out').world.facility.places ≡ Some g_then
   receiver_then = ap (λ (x : World). find b x.facility.places) (left_world G b (deciphering w) cipher out' g receiver d_conditions) ∙ put-own b g g_then G.facility.places receiver
 
-  e-left : (mode_side (enciphering w) h_then).vector.vector.0 ≡ mode_vector (enciphering w) e-key e-vector d
+  e-left : (mode_side (enciphering w) h_then).vector.value.0 ≡ mode_vector (enciphering w) e-key e-vector d
   e-left = vector-left h d data_whole (omega (arith, some_bytes (length d) e_conditions.blocks)) (enciphering w) sides.sender
 
-  d-left : (mode_side (deciphering w) g_then).vector.vector.0 ≡ mode_vector (deciphering w) (mode_side (deciphering w) g).key.key.0 d-vector cipher
+  d-left : (mode_side (deciphering w) g_then).vector.value.0 ≡ mode_vector (deciphering w) (mode_side (deciphering w) g).key.value.0 d-vector cipher
   d-left =
-      let some : length cipher ≡ 0 → ⊥ = some_bytes (length cipher) d_conditions.blocks in
-      vector-left g cipher (subst Whole (sym cipher_is) (mode_text_whole (enciphering w) e-key e-vector d)) (omega (arith, some)) (deciphering w) sides.receiver
+      let Some : length cipher ≡ 0 → ⊥ = some_bytes (length cipher) d_conditions.blocks in
+      vector-left g cipher (subst Whole (sym cipher_is) (mode_text_whole (enciphering w) e-key e-vector d)) (omega (arith, Some)) (deciphering w) sides.receiver
 
   in_step : InStep w h_then g_then
   in_step =
       record {
         key =
-            ap (λ k. k.key.0) (key_stays h (vector_of (enciphering w) h d) (enciphering w))
+            ap (λ k. k.value.0) (key_stays h (vector_of (enciphering w) h d) (enciphering w))
             ∙ sides.key
-            ∙ sym (ap (λ k. k.key.0) (key_stays g (vector_of (deciphering w) g cipher) (deciphering w)));
+            ∙ sym (ap (λ k. k.value.0) (key_stays g (vector_of (deciphering w) g cipher) (deciphering w)));
         vector =
-            subst (Agree w (mode_side (enciphering w) h_then).vector.vector.0)
+            subst (Agree w (mode_side (enciphering w) h_then).vector.value.0)
             (sym (d-left ∙ ap₂ (λ (k c : Bytes). mode_vector (deciphering w) k d-vector c) (sym sides.key) cipher_is))
             (subst (λ (v : Bytes). Agree w v (mode_vector (deciphering w) e-key d-vector (mode_text (enciphering w) e-key e-vector d))) (sym e-left)
             (vector_alike e-key e-vector d-vector d sides.sender sides.receiver data_whole w sides.vector));
         sender = subst Octets (sym e-left) (mode_vector_octets (enciphering w) e-key e-vector d);
-        receiver = subst Octets (sym d-left) (mode_vector_octets (deciphering w) (mode_side (deciphering w) g).key.key.0 d-vector cipher);
+        receiver = subst Octets (sym d-left) (mode_vector_octets (deciphering w) (mode_side (deciphering w) g).key.value.0 d-vector cipher);
       }
 
   -- after both calls the two sides are in step again, and the receiver ready, so that the next record goes through as well
-  pub again : (find a (step F (by a (mode (enciphering w) d)) out).world.facility.places ≡ some h_then)
-      × (find b (step G (by b (mode (deciphering w) cipher)) out').world.facility.places ≡ some g_then)
+  pub again : (find a (step F (by a (mode (enciphering w) d)) out).world.facility.places ≡ Some h_then)
+      × (find b (step G (by b (mode (deciphering w) cipher)) out').world.facility.places ≡ Some g_then)
       × InStep w h_then g_then × Ready (deciphering w) b g_then
   again = (
     sender_then,
@@ -203,16 +202,16 @@ module _ (w : Way) (F G : World) (a b : ℕ) (d out out' : Bytes) (h g : Holding
 
 -- ---- one fixity value
 
-fixity-given : (F : World) (u f : ℕ) (d out : Bytes) (h : Holdings) → find u F.facility.places ≡ some h → Accepted F u (DAUT f d) out
-    → (step F (by u (DAUT f d)) out).answered.block ≡ fixity (side_for (function_of f) h).key.key.0 (side_for (function_of f) h).vector.vector.0 d
+fixity-given : (F : World) (u f : ℕ) (d out : Bytes) (h : Holdings) → find u F.facility.places ≡ Some h → Accepted F u (DAUT f d) out
+    → (step F (by u (DAUT f d)) out).answered.block ≡ fixity (side_for (function_of f) h).key.value.0 (side_for (function_of f) h).vector.value.0 d
 unfolding effect seat_of
 fixity-given F u f d out h active done =
     ap (λ r. r.answered.block) (done-step F u (DAUT f d) out (accepted_first F u (DAUT f d) out done))
-    ∙ ap (λ (s : Option Holdings). fixity (side_for (function_of f) (seat_of s).holdings).key.key.0 (side_for (function_of f) (seat_of s).holdings).vector.vector.0 d) active
+    ∙ ap (λ (s : Option Holdings). fixity (side_for (function_of f) (seat_of s).holdings).key.value.0 (side_for (function_of f) (seat_of s).holdings).vector.value.0 d) active
 
 -- the sender's as t, the receiver's as r: over the plain record d, where the sides hold the same key and vector
-pub one_value : (F G : World) (a b : ℕ) (d out out' : Bytes) (h g : Holdings) → find a F.facility.places ≡ some h → find b G.facility.places ≡ some g
-    → h.transmit.key.key.0 ≡ g.receive.key.key.0 → h.transmit.vector.vector.0 ≡ g.receive.vector.vector.0
+pub one_value : (F G : World) (a b : ℕ) (d out out' : Bytes) (h g : Holdings) → find a F.facility.places ≡ Some h → find b G.facility.places ≡ Some g
+    → h.transmit.key.value.0 ≡ g.receive.key.value.0 → h.transmit.vector.value.0 ≡ g.receive.vector.value.0
     → Accepted F a (DAUT 0x74 d) out → Accepted G b (DAUT 0x72 d) out'
     → (step F (by a (DAUT 0x74 d)) out).answered.block ≡ (step G (by b (DAUT 0x72 d)) out').answered.block
 unfolding function_of side_for

@@ -4,7 +4,7 @@ use Rattle.std.specs.Prelude.{◌≡◌, true, false, not, ◌++◌, ℕ, ◌+�
 use Rattle.std.proofs.Math.Path.{refl, subst}
 use Rattle.std.proofs.Common.{sym, ap, ◌∙◌, arith, length-append}
 use Rattle.std.proofs.lemmas.Bool.{false≢true}
-use Rattle.std.proofs.Math.Option.{Option, none, some}
+use Rattle.std.specs.Prelude.{Option, None, Some}
 use borrow.Author.Tests.{eqb-true, eqb-false, le-ltb}
 use Rattle.ground.specs.Search.{by_test}
 use Rattle.ground.specs.Lists.{Below}
@@ -12,9 +12,9 @@ use Rattle.cipher.specs.Cipher.{Octets, Whole, vector_after}
 use Rattle.cipher.specs.declared.modes.Mode.{Mode}
 use Rattle.cipher.proofs.Promise.{mode_vector-after}
 use Rattle.state.specs.declared.Holdings.{Holdings}
-use Rattle.state.specs.State.{Bytes, find, seat_of}
+use Rattle.state.specs.State.{Bytes, find}
 use Rattle.table.specs.Passwords.{big}
-use Rattle.rules.specs.World.{World, own, shut_for}
+use Rattle.rules.specs.World.{seat_of, World, own, shut_for}
 use Rattle.rules.specs.Sides.{mode_side, lacks_vector}
 use Rattle.rules.specs.Refusals.{test, bad_blocks}
 use Rattle.rules.specs.Commands.{by, mode, refusals, effect}
@@ -32,20 +32,20 @@ use Rattle.properties.specs.TwoCalls.{reply}
 -- ---- the vector afterwards
 
 -- u, who holds h, has called the mode m: the side's vector is the last cipher block, which E gave and D took; ECB left it (`vector_after`)
-pub last-cipher-block : (w : World) (u : ℕ) (m : Mode) (d out : Bytes) (h : Holdings) → find u w.facility.places ≡ some h
-    → Octets (mode_side m h).vector.vector.0 → Below 256 d → Accepted w u (mode m d) out
-    → (find u (step w (by u (mode m d)) out).world.facility.places ≡ some (held m h d))
-    × ((mode_side m (held m h d)).vector.vector.0
-    ≡ vector_after m (mode_side m h).vector.vector.0 d (take (length d) (step w (by u (mode m d)) out).answered.output))
+pub last-cipher-block : (w : World) (u : ℕ) (m : Mode) (d out : Bytes) (h : Holdings) → find u w.facility.places ≡ Some h
+    → Octets (mode_side m h).vector.value.0 → Below 256 d → Accepted w u (mode m d) out
+    → (find u (step w (by u (mode m d)) out).world.facility.places ≡ Some (held m h d))
+    × ((mode_side m (held m h d)).vector.value.0
+    ≡ vector_after m (mode_side m h).vector.value.0 d (take (length d) (step w (by u (mode m d)) out).answered.output))
 unfolding text
 last-cipher-block w u m d out h active o bytes done =
     let c = conditions w u m d out h active done in
     let all : Whole d = record { blocks = good_blocks (length d) c.blocks; small = bytes } in
-    let v = (mode_side m h).vector.vector.0 in
+    let v = (mode_side m h).vector.value.0 in
     let some_data = some_bytes (length d) c.blocks in (
       ap (λ (x : World). find u x.facility.places) (left_world w u m d out h active c) ∙ put-own u h (held m h d) w.facility.places active,
       vector-left h d all (omega (arith, some_data)) m o
-          ∙ mode_vector-after (mode_side m h).key.key.0 v d o all (omega (arith, some_data)) m
+          ∙ mode_vector-after (mode_side m h).key.value.0 v d o all (omega (arith, some_data)) m
           ∙ ap (vector_after m v d) (sym (written w u m d out h active done)),
     )
 
@@ -69,16 +69,16 @@ module _ (w : World) (u : ℕ) (m : Mode) (d out : Bytes) (blocks : bad_blocks (
 -- ---- two calls, and one
 
 -- who is active holds something
-holdings_of : (s : Option Holdings) → (seat_of s).active ≡ true → (h : Holdings) × (s ≡ some h)
+holdings_of : (s : Option Holdings) → (seat_of s).active ≡ true → (h : Holdings) × (s ≡ Some h)
 unfolding seat_of
-holdings_of none a = absurd (false≢true a)
-holdings_of (some h) a = (h, refl)
+holdings_of None a = absurd (false≢true a)
+holdings_of (Some h) a = (h, refl)
 
 -- u calls the mode m with the data d, then with e; or once with both. Each is some whole blocks, each output has room for what it gets, and both together
 -- are at most 32768 bytes. (That a vector is eight bytes is by its type.)
 module _ (w : World) (u : ℕ) (m : Mode) (d e out₁ out₂ out : Bytes) (d-blocks : Whole d) (d-some : 0 < length d) (e-blocks : Whole e) (e-some : 0 < length e)
     (room₁ : length d ≤ length out₁) (room₂ : length e ≤ length out₂) (room : length (d ++ e) ≤ length out) (limit : length (d ++ e) ≤ 32768)
-    (eight : Octets (mode_side m (own u w).seat.holdings).vector.vector.0) where
+    (eight : Octets (mode_side m (own u w).seat.holdings).vector.value.0) where
   abbrev pub first : Result
   first = step w (by u (mode m d)) out₁
 
@@ -127,7 +127,7 @@ module _ (w : World) (u : ℕ) (m : Mode) (d e out₁ out₂ out : Bytes) (d-blo
   -- ---- accepted
 
   module _ (z : side_number w u m ≡ 0) where
-    active_then : (h : Holdings) × (find u w.facility.places ≡ some h)
+    active_then : (h : Holdings) × (find u w.facility.places ≡ Some h)
     unfolding side_number
     active_then =
         let a = next (big u) 1 _ (λ q. omega arith) z in
@@ -140,11 +140,11 @@ module _ (w : World) (u : ℕ) (m : Mode) (d e out₁ out₂ out : Bytes) (d-blo
     one : Accepted w u (mode m d) out₁
     one = reply-first_call ∙ z
 
-    octets : Octets (mode_side m holds).vector.vector.0
+    octets : Octets (mode_side m holds).vector.value.0
     unfolding seat_of
-    octets = subst (λ (s : Option Holdings). Octets (mode_side m (seat_of s).holdings).vector.vector.0) active_then.1 eight
+    octets = subst (λ (s : Option Holdings). Octets (mode_side m (seat_of s).holdings).vector.value.0) active_then.1 eight
 
-    still : find u first.world.facility.places ≡ some (held m holds d)
+    still : find u first.world.facility.places ≡ Some (held m holds d)
     still = (last-cipher-block w u m d out₁ holds active_then.1 octets d-blocks.small one).0
 
     two : Accepted first.world u (mode m e) out₂

@@ -35,7 +35,7 @@ module _ (w : World) (u : ℕ) (k v d out : Bytes) (active : IsActive u w) (su :
       (fails _ 10 _ (ap (λ x. not x.present) side.key)
       (fails _ 11 _ (ap (λ x. not x.present) side.vector)
       (fails _ 12 0 (good_size (length d) some_bytes limit) refl))))))
-      ∙ ap₂ (λ x y. gave (fixity x.key.0 y.vector.0 d) out w) side.key side.vector
+      ∙ ap₂ (λ x y. gave (fixity x.value.0 y.value.0 d) out w) side.key side.vector
 
   -- eight bytes, and nothing altered
   pub value_t : Equipped k v (sides_of u w).transmit → Gives w (fixity k v d) out (step w (by u (DAUT as_t d)) out)

@@ -8,7 +8,7 @@ use Rattle.rules.specs.Sides.{mode_side, after_mode}
 
 -- the vector that the call leaves, and the holdings
 abbrev pub vector_of : Mode → Holdings → Bytes → Vector
-vector_of m h d = record { 0 = mode_vector m (mode_side m h).key.key.0 (mode_side m h).vector.vector.0 d }
+vector_of m h d = record { 0 = mode_vector m (mode_side m h).key.value.0 (mode_side m h).vector.value.0 d }
 
 abbrev pub held : Mode → Holdings → Bytes → Holdings
 held m h d = after_mode m (vector_of m h d) h

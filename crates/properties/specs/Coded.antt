@@ -3,10 +3,9 @@ use Rattle.std.specs.Prelude.{◌≡◌, ℕ, length, take}
 use Rattle.cipher.specs.Cipher.{Way, deciphering}
 use Rattle.state.specs.declared.Side.{Side}
 use Rattle.state.specs.State.{Bytes}
-use Rattle.rules.specs.declared.Answer.TheVariants.{Wrote}
 use Rattle.rules.specs.World.{World}
 use Rattle.rules.specs.Commands.{by, mode}
-use Rattle.rules.specs.Step.{step}
+use Rattle.rules.specs.Step.{Wrote, step}
 use Rattle.properties.specs.Held.{held_key, held_vector}
 
 -- the side has the key k and the vector v

@@ -4,10 +4,9 @@ use Rattle.cipher.specs.Cipher.{enciphered, mode_text, fixity}
 use Rattle.cipher.specs.declared.modes.Mode.{Mode}
 use Rattle.keys.specs.Keys.{parity_of, notarized}
 use Rattle.state.specs.State.{Bytes}
-use Rattle.rules.specs.declared.Answer.TheVariants.{Done, Gave, Wrote}
 use Rattle.rules.specs.World.{World}
 use Rattle.rules.specs.Commands.{by, GDK, LDK, GIV, LIV, DAUT, mode}
-use Rattle.rules.specs.Step.{Result, step}
+use Rattle.rules.specs.Step.{Done, Gave, Wrote, Result, step}
 use Rattle.properties.specs.Held.{IsActive, IsSmall, as_t, as_r, HasCurrent, current_key, SharedKey, Brought, Gives}
 
 -- i sits at F, j at G. i makes a key of the bits and a vector of the seed, over the interchange that F calls p and G calls q, and sends the text

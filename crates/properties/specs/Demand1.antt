@@ -7,11 +7,10 @@ use Rattle.std.proofs.Math.Dec.{eqb}
 use Rattle.cipher.specs.declared.modes.Mode.{Mode}
 use Rattle.cipher.specs.declared.modes.Mode.TheVariants.{Ecbe, Ecbd, Cbce, Cbcd, Cfbe, Cfbd}
 use Rattle.state.specs.State.{Bytes}
-use Rattle.rules.specs.declared.Answer.TheVariants.{Refused}
 use Rattle.rules.specs.Commands.{UserCommand, RAS, LAU, CPW, GDK, LDK, GIV, LIV, EIV, RDK, mode, DAUT, Command, by, EIK, IPW, RPW, logout, refusals, effect}
 use Rattle.rules.specs.World.{World, Own}
 use Rattle.rules.specs.Refusals.{Test, first_of}
-use Rattle.rules.specs.Step.{told, plain, number_of, Result, result}
+use Rattle.rules.specs.Step.{Refused, told, plain, number_of, Result, result}
 
 -- ---- a list of tests
 

@@ -2,14 +2,14 @@
 use Rattle.std.specs.Prelude.{◌≡◌, true, ℕ, ◌≤◌, ◌<◌, length}
 use Rattle.cipher.specs.Cipher.{Octets, Whole}
 use Rattle.keys.specs.Keys.{parity_of}
-use Rattle.state.specs.declared.HeldKey.{HeldKey}
-use Rattle.state.specs.declared.HeldVector.{HeldVector}
+use Rattle.cipher.specs.declared.keys.DataKey.{DataKey}
+use Rattle.cipher.specs.declared.keys.Vector.{Vector}
+use Rattle.state.specs.declared.Held.{Held}
 use Rattle.state.specs.declared.Holdings.{Holdings}
 use Rattle.state.specs.declared.Side.{Side}
-use Rattle.state.specs.State.{Bytes, no_vector, find, seat_of, key_at}
-use Rattle.rules.specs.declared.Answer.TheVariants.{Done, Gave}
-use Rattle.rules.specs.World.{World}
-use Rattle.rules.specs.Step.{Result}
+use Rattle.state.specs.State.{held, Bytes, no_vector, find, key_at}
+use Rattle.rules.specs.World.{seat_of, World}
+use Rattle.rules.specs.Step.{Done, Gave, Result}
 
 -- ---- users
 
@@ -24,11 +24,11 @@ abbrev pub sides_of : ℕ → World → Holdings
 sides_of u w = (seat_of (find u w.facility.places)).holdings
 
 -- a key that is there, a vector that is there
-abbrev pub held_key : Bytes → HeldKey
-held_key k = record { present = true; key = record { 0 = k } }
+abbrev pub held_key : Bytes → Held DataKey
+held_key k = held (record { 0 = k })
 
-abbrev pub held_vector : Bytes → HeldVector
-held_vector v = record { present = true; vector = record { 0 = v } }
+abbrev pub held_vector : Bytes → Held Vector
+held_vector v = held (record { 0 = v })
 
 -- the key functions t, r and s
 abbrev pub as_t : ℕ
@@ -47,13 +47,13 @@ abbrev pub HasCurrent : ℕ → World → Type 0
 HasCurrent p w = (key_at p w.facility.current_keys).present ≡ true
 
 abbrev pub current_key : ℕ → World → Bytes
-current_key p w = (key_at p w.facility.current_keys).key.0
+current_key p w = (key_at p w.facility.current_keys).value.0
 
 abbrev pub HasOld : ℕ → World → Type 0
 HasOld p w = (key_at p w.facility.old_keys).present ≡ true
 
 abbrev pub old_key : ℕ → World → Bytes
-old_key p w = (key_at p w.facility.old_keys).key.0
+old_key p w = (key_at p w.facility.old_keys).value.0
 
 -- two keys that are the same once their parity is set: they differ in their parity bits, if at all
 abbrev pub Alike : Bytes → Bytes → Type 0

@@ -3,10 +3,9 @@ use Rattle.std.specs.Prelude.{◌≡◌, false, ℕ, eqb}
 use Rattle.keys.specs.Keys.{notarized}
 use Rattle.state.specs.declared.Holdings.{Holdings}
 use Rattle.state.specs.State.{Bytes}
-use Rattle.rules.specs.declared.Answer.TheVariants.{Done, Gave}
 use Rattle.rules.specs.World.{World}
 use Rattle.rules.specs.Sides.{function_of, wrong_pair, pair_key}
-use Rattle.rules.specs.Step.{Result, result, plain}
+use Rattle.rules.specs.Step.{Done, Gave, Result, result, plain}
 use Rattle.properties.specs.Others.{holding}
 
 -- the eight bytes b given, and nothing altered

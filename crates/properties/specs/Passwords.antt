@@ -1,7 +1,7 @@
 -- "The password of IPW is accepted by RAS and by CPW"; the one that CPW gives is accepted afterwards.
 use Rattle.std.specs.Prelude.{◌≡◌, Bool, false, ℕ, length}
 use Rattle.std.proofs.Math.Bool.{true}
-use Rattle.std.proofs.Math.Option.{none, some}
+use Rattle.std.specs.Prelude.{None, Some}
 use Rattle.state.specs.declared.Holdings.{Holdings}
 use Rattle.state.specs.State.{Bytes, find, all_taken, key_at}
 use Rattle.table.specs.Entries.{fits, entry_of}
@@ -20,14 +20,14 @@ pub record Stands (w : World) (u : ℕ) (p : Bytes) : Type 0 where
   pub table : fits (length w.table) ≡ true
   pub key : (key_at 1 w.facility.current_keys).present ≡ true
   pub turn : w.facility.due ≡ false
-  pub entry : entry_of u w.table ≡ some (sealed (key1 w) u p)
+  pub entry : entry_of u w.table ≡ Some (sealed (key1 w) u p)
 
 -- u is active, with these holdings; u is not active; a place is free
 abbrev pub Active : ℕ → Holdings → World → Type 0
-Active u h w = find u w.facility.places ≡ some h
+Active u h w = find u w.facility.places ≡ Some h
 
 abbrev pub Inactive : ℕ → World → Type 0
-Inactive u w = find u w.facility.places ≡ none
+Inactive u w = find u w.facility.places ≡ None
 
 abbrev pub Room : World → Type 0
 Room w = all_taken w.facility.places ≡ false

@@ -1,6 +1,6 @@
 -- "EIK of name 1, then RPW": a user authenticates exactly if he did before. RPW applied twice is refused.
 use Rattle.std.specs.Prelude.{Bool, List}
-use Rattle.std.proofs.Math.Option.{Option, none, some}
+use Rattle.std.specs.Prelude.{Option, None, Some}
 use Prim.Native.Nat.{ℕ}
 use Rattle.std.proofs.Math.ListN.{length}
 use Rattle.cipher.specs.Cipher.{Octets}
@@ -13,14 +13,14 @@ use Rattle.properties.specs.Passwords.{authenticates}
 -- ---- the entries of a table of bytes are eight bytes
 
 abbrev pub Held : Option Bytes → Type 0
-Held none = Unit {0}
-Held (some b) = Octets b
+Held None = Unit {0}
+Held (Some b) = Octets b
 
 -- ---- RPW
 
 -- old key 1
 abbrev pub old1 : World → Bytes
-old1 w = (key_at 1 w.facility.old_keys).key.0
+old1 w = (key_at 1 w.facility.old_keys).value.0
 
 -- ---- EIK of name 1, then RPW
 

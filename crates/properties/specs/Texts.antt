@@ -17,10 +17,10 @@ Agree CFB v v' = v ≡ v'
 
 -- the side that E uses of the holdings h and the side that D uses of the holdings g: one key, vectors that agree, each of eight bytes
 pub record InStep (w : Way) (h g : Holdings) : Type 0 where
-  pub key : (mode_side (enciphering w) h).key.key.0 ≡ (mode_side (deciphering w) g).key.key.0
-  pub vector : Agree w (mode_side (enciphering w) h).vector.vector.0 (mode_side (deciphering w) g).vector.vector.0
-  pub sender : Octets (mode_side (enciphering w) h).vector.vector.0
-  pub receiver : Octets (mode_side (deciphering w) g).vector.vector.0
+  pub key : (mode_side (enciphering w) h).key.value.0 ≡ (mode_side (deciphering w) g).key.value.0
+  pub vector : Agree w (mode_side (enciphering w) h).vector.value.0 (mode_side (deciphering w) g).vector.value.0
+  pub sender : Octets (mode_side (enciphering w) h).vector.value.0
+  pub receiver : Octets (mode_side (deciphering w) g).vector.value.0
 
 -- u, who holds h, may use the mode: a small identifier, the side's key present, and its vector (11 is not among ECB's)
 pub record Ready (m : Mode) (u : ℕ) (h : Holdings) : Type 0 where
