@@ -1,4 +1,5 @@
 pub mod Page
+pub mod Inked
 pub mod Digits
 pub mod Lines
 pub mod Text

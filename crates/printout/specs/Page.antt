@@ -1,6 +1,6 @@
 -- A page: a buffer, and how far it is filled.
-use Rattle.std.specs.Prelude.{◌≡◌, refl, cond, List, [], ◌∷◌, ◌++◌, ℕ, ◌+◌, ◌≤◌, ◌<◌, ltb, length, get_or, set, drop}
-use Rattle.std.proofs.Common.{sym, ap, ◌∙◌, add-one, drop_of_length-le, drop-cons}
+use Rattle.std.specs.Prelude.{◌≡◌, refl, cond, List, [], ◌∷◌, ◌++◌, ℕ, ◌+◌, ltb, length, set}
+use Rattle.std.proofs.Common.{sym, ap, ◌∙◌}
 
 pub record Page : Type 0 where
   pub letters : List ℕ
@@ -27,12 +27,3 @@ then (x ∷ xs) ys p = then xs ys (letter x p)
 -- a text entered in two parts
 pub two : (xs ys : List ℕ) (p q r : Page) → r ≡ entered ys q → q ≡ entered xs p → r ≡ entered (xs ++ ys) p
 two xs ys p q r f e = f ∙ ap (entered ys) e ∙ sym (then xs ys p)
-
--- one letter of a text, and the rest
-pub enter_step : (xs : List ℕ) (i : ℕ) (p : Page) → i < length xs → entered (drop i xs) p ≡ entered (drop (i + 1) xs) (entered (get_or xs i 0 ∷ []) p)
-unfolding entered
-enter_step xs i p h = rw (add-one, drop-cons xs i 0 h)
-
-pub enter_end : (xs : List ℕ) (i : ℕ) (p : Page) → length xs ≤ i → entered (drop i xs) p ≡ p
-unfolding entered
-enter_end xs i p h = rw drop_of_length-le

@@ -1,10 +1,11 @@
 // Numbers in decimal, bytes in upper-case hexadecimal.
-ghost use Rattle.std.specs.Prelude.{◌≡◌, ◌<◌, ◌≤◌, length, drop};
-ghost use Rattle.printout.specs.Page.{page, entered};
+ghost use Rattle.std.specs.Prelude.{◌≡◌, ◌<◌};
 ghost use Rattle.printout.specs.Digits.{hex_digit, hex_byte, hex, decimal};
+ghost use Rattle.printout.specs.Inked.{inked};
 
-use crate::page::{put, put_all};
+use crate::page::Page;
 
+#[tactic(auto, unfolding(crate::specs::Digits::hex_digit))]
 fn hex_digit(n: u8) -> u8
     requires { n < 16 }
     ensures { result ≡ hex_digit n }
@@ -12,37 +13,32 @@ fn hex_digit(n: u8) -> u8
     if n < 10 { 48 + n } else { 55 + n }
 }
 
-pub fn put_hex_byte(paper: &mut [u8], at: usize, byte: u8) -> usize
-    ensures { page paper.new result ≡ entered (hex_byte byte) (page paper.old at) }
-{
-    let next = put(&mut paper[..], at, hex_digit(byte / 16));
-    put(&mut paper[..], next, hex_digit(byte % 16))
-}
-
-pub fn put_hex(paper: &mut [u8], at: usize, bytes: &[u8]) -> usize
-    ensures { page paper.new result ≡ entered (hex bytes.now) (page paper.old at) }
-{
-    let mut to = at;
-    let mut i: usize = 0;
-    while i < bytes.len() {
-        to = put_hex_byte(&mut paper[..], to, bytes[i]);
-        i += 1;
+impl Page<'_> {
+    #[tactic(auto, using(crate::specs::Inked::entries), unfolding(crate::specs::Digits::hex_byte))]
+    pub fn put_hex_byte(&mut self, byte: u8)
+        ensures { self.new ≡ inked (hex_byte byte) self.old }
+    {
+        self.put(hex_digit(byte / 16));
+        self.put(hex_digit(byte % 16));
     }
-    to
-}
 
-// The digits are made from the last on.
-pub fn put_decimal(paper: &mut [u8], at: usize, number: usize) -> usize
-    ensures { page paper.new result ≡ entered (decimal number) (page paper.old at) }
-{
-    let mut text = [0u8; 20];
-    let mut n = number;
-    let mut i: usize = 19;
-    while 10 <= n {
-        text[i] = 48 + (n % 10) as u8;
-        n = n / 10;
-        i -= 1;
+    #[tactic(auto, using(crate::specs::Inked::entries, crate::specs::Digits::hex_more), unfolding(crate::specs::Digits::hex))]
+    pub fn put_hex(&mut self, bytes: &[u8])
+        ensures { self.new ≡ inked (hex bytes.now) self.old }
+    {
+        for b in bytes {
+            self.put_hex_byte(*b);
+        }
     }
-    text[i] = 48 + (n % 10) as u8;
-    put_all(&mut paper[..], at, &text[i..])
+
+    // The last digit behind those before it; no number has more than twenty.
+    #[tactic(auto, using(crate::specs::Inked::entries, crate::specs::Digits::by_last))]
+    pub fn put_decimal(&mut self, number: usize)
+        ensures { self.new ≡ inked (decimal number) self.old }
+    {
+        if 10 <= number {
+            self.put_decimal(number / 10);
+        }
+        self.put(48 + (number % 10) as u8);
+    }
 }

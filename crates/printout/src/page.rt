@@ -1,33 +1,44 @@
-// A page is a lent buffer, filled from a position on; what finds no room is left out.
+// A page is a lent buffer, filled from its start on; what finds no room is left out.
 ghost use Rattle.std.specs.Prelude.{◌≡◌, [], ◌∷◌, take};
-ghost use Rattle.printout.specs.Page.{page, entered};
+ghost use Rattle.printout.specs.Inked.{inked};
 
-pub fn put(paper: &mut [u8], at: usize, letter: u8) -> usize
-    ensures { page paper.new result ≡ entered (letter ∷ []) (page paper.old at) }
-{
-    if at < paper.len() {
-        paper[at] = letter;
-        at + 1
-    } else {
-        at
-    }
+// The letters that are lent, and how far they are filled.
+#[derive(Drop)]
+pub struct Page<'a> {
+    pub letters: &'a mut [u8],
+    pub filled: usize,
 }
 
-pub fn put_all(paper: &mut [u8], at: usize, text: &[u8]) -> usize
-    ensures { page paper.new result ≡ entered text.now (page paper.old at) }
-{
-    let mut to = at;
-    let mut i: usize = 0;
-    while i < text.len() {
-        to = put(&mut paper[..], to, text[i]);
-        i += 1;
+impl<'a> Page<'a> {
+    pub fn new(letters: &'a mut [u8]) -> Page<'a>
+        ensures { result ≡ record { letters = letters.entry; filled = 0 } }
+    {
+        Page { letters, filled: 0 }
     }
-    to
+
+    #[tactic(auto, unfolding(crate::specs::Inked::inked, crate::specs::Page::entered, crate::specs::Page::letter))]
+    pub fn put(&mut self, letter: u8)
+        ensures { self.new ≡ inked (letter ∷ []) self.old }
+    {
+        if self.filled < self.letters.len() {
+            self.letters[self.filled] = letter;
+            self.filled += 1;
+        }
+    }
+
+    #[tactic(auto, using(crate::specs::Inked::entries))]
+    pub fn put_all(&mut self, text: &[u8])
+        ensures { self.new ≡ inked text.now self.old }
+    {
+        for x in text {
+            self.put(*x);
+        }
+    }
 }
 
 // At most so many of the bytes.
 pub fn first_of(bytes: &[u8], n: usize) -> &[u8]
     ensures { result.now ≡ take n bytes.now }
 {
-    if n <= bytes.len() { &bytes[..n] } else { bytes }
+    &bytes[..n.min(bytes.len())]
 }
