@@ -1,12 +1,8 @@
 -- The grammar by itself: the order of each command's arguments, and the fields of a value as those of one request.
-use Rattle.std.specs.Prelude.{◌≡◌, refl, Bool, true, false, cond, ℕ, ◌+◌, ◌≤◌, ◌<◌, eqb, ltb, leb}
-use Rattle.std.proofs.Common.{sym, ◌∙◌, true≢false, arith}
-use Rattle.std.proofs.Math.Path.{ap, subst}
+use Rattle.std.specs.Prelude.{◌≡◌, Bool, true, false, cond, ℕ, ◌+◌, ◌≤◌, ◌<◌, eqb, ltb, leb, Some, List, [], ◌∷◌, ◌++◌, length, drop}
+use Rattle.std.proofs.Common.{refl, sym, ◌∙◌, true≢false, arith, ap, subst, length-append, eqb-true, ne_eqb, ltb-true, leb-true}
+use borrow.Author.Tests.{eqb-false}
 use Rattle.std.proofs.lemmas.Bool.{false≢true}
-use Rattle.std.proofs.Math.Option.{some}
-use mathlib.Core.List.{List, [], ◌∷◌, ◌++◌}
-use Rattle.std.proofs.Math.ListN.{length, drop, length-append}
-use borrow.Author.Tests.{eqb-true, eqb-false, ne_eqb, ltb-true, leb-true}
 use Rattle.ground.specs.Search.{by_test}
 use Rattle.stream.specs.declared.Request.{Request}
 use Rattle.stream.specs.Fields.{Bytes, field, part}
@@ -50,9 +46,9 @@ not-among n (k ∷ ks) j h l =
     let u = above n k ks h in
     rw (ne_eqb j k (λ e. omega arith)) (not-among k ks j (later n k ks h) (omega arith))
 
-row-ordered : (t : ℕ) (rs : List Row) (ks : List ℕ) → ordered rs ≡ true → arguments_in t rs ≡ some ks → (ascending 0x80 ks ≡ true) × (length ks ≤ 5)
+row-ordered : (t : ℕ) (rs : List Row) (ks : List ℕ) → ordered rs ≡ true → arguments_in t rs ≡ Some ks → (ascending 0x80 ks ≡ true) × (length ks ≤ 5)
 unfolding ordered
-row-ordered t [] ks h e = absurd (let z : ◌≡◌ {A = ℕ} 0 1 = cc in omega arith)
+row-ordered t [] ks h e = cc
 row-ordered t (r ∷ rs) ks h e =
     let x = both (ascending 0x80 r.arguments) _ h in
     let y = both (leb (length r.arguments) 5) (ordered rs) x.1 in
@@ -60,9 +56,9 @@ row-ordered t (r ∷ rs) ks h e =
     (λ q.
     let is : r.arguments ≡ ks = cc in
     (ap (ascending 0x80) (sym is) ∙ x.0, subst (λ (l : List ℕ). length l ≤ 5) is (leb-true (length r.arguments) 5 y.0)))
-    (λ q. row-ordered t rs ks y.1 (sym (ap (λ (b : Bool). cond b (some r.arguments) (arguments_in t rs)) q) ∙ e))
+    (λ q. row-ordered t rs ks y.1 (sym (ap (λ (b : Bool). cond b (Some r.arguments) (arguments_in t rs)) q) ∙ e))
 
-pub arguments_ordered : (t : ℕ) (ks : List ℕ) → arguments_of t ≡ some ks → (ascending 0x80 ks ≡ true) × (length ks ≤ 5)
+pub arguments_ordered : (t : ℕ) (ks : List ℕ) → arguments_of t ≡ Some ks → (ascending 0x80 ks ≡ true) × (length ks ≤ 5)
 unfolding arguments_of
 arguments_ordered t ks e = row-ordered t commands ks commands-ordered e
 
@@ -73,7 +69,8 @@ nothing_above n [] h l = refl
 nothing_above n (k ∷ ks) h l = absurd (omega (arith, above n k ks h, up_to n k ks h))
 
 module _ (t : ℕ) (a a' : Request) (d d' : Bytes) (c : Sound t a) (c' : Sound t a') where
-  same_length : (n k : ℕ) (ks : List ℕ) → 0x80 ≤ n → ascending n (k ∷ ks) ≡ true → spelled (k ∷ ks) a d ≡ spelled (k ∷ ks) a' d' → length (argument k a d) ≡ length (argument k a' d')
+  same_length : (n k : ℕ) (ks : List ℕ) → 0x80 ≤ n → ascending n (k ∷ ks) ≡ true
+      → spelled (k ∷ ks) a d ≡ spelled (k ∷ ks) a' d' → length (argument k a d) ≡ length (argument k a' d')
   unfolding spelled
   same_length n k ks base up h =
       let u = above n k ks up in
@@ -81,9 +78,16 @@ module _ (t : ℕ) (a a' : Request) (d d' : Bytes) (c : Sound t a) (c' : Sound t
       by_test (eqb k 0x87)
       (λ e.
       let z : ks ≡ [] = nothing_above k ks (later n k ks up) (omega (arith, eqb-true k 0x87 e)) in
-      let g : field k (argument k a d) ++ [] ≡ field k (argument k a' d') ++ [] = subst (λ (l : List ℕ). field k (argument k a d) ++ spelled l a d ≡ field k (argument k a' d') ++ spelled l a' d') z h in
-      omega (arith, ap length g, length-append (field k (argument k a d)) [], length-append (field k (argument k a' d')) [], field-length k (argument k a d), field-length k (argument k a' d')))
-      (λ e. one_size_lem k (omega arith) high (length (argument k a d)) (length (argument k a' d')) (omega (arith, eqb-false k 0x87 e)) (sized k (omega arith) high t a d c) (sized k (omega arith) high t a' d' c'))
+      let f = field k (argument k a d) in
+      let f' = field k (argument k a' d') in
+      let g : f ++ [] ≡ f' ++ [] = subst (λ (l : List ℕ). f ++ spelled l a d ≡ f' ++ spelled l a' d') z h in
+      let n = field-length k (argument k a d) in
+      let n' = field-length k (argument k a' d') in
+      omega (arith, ap length g, length-append f [], length-append f' [], n, n'))
+      (λ e.
+      let m = sized k (omega arith) high t a d c in
+      let m' = sized k (omega arith) high t a' d' c' in
+      one_size_lem k (omega arith) high (length (argument k a d)) (length (argument k a' d')) (omega (arith, eqb-false k 0x87 e)) m m')
 
   pub same_fields : (n : ℕ) (ks : List ℕ) → 0x80 ≤ n → ascending n ks ≡ true → spelled ks a d ≡ spelled ks a' d' → (j : ℕ) → among j ks ≡ true → argument j a d ≡ argument j a' d'
   unfolding spelled among
@@ -93,7 +97,11 @@ module _ (t : ℕ) (a a' : Request) (d d' : Bytes) (c : Sound t a) (c' : Sound t
       let s = spelled (k ∷ ks) a d in
       let b = argument k a d in
       let b' = argument k a' d' in
+      let r = spelled ks a d in
+      let r' = spelled ks a' d' in
       let l : length b ≡ length b' = same_length n k ks base up h in
+      let value : b ≡ b' = sym (field_value s 0 k b r refl) ∙ ap (λ (m : ℕ). part 3 (3 + m) s) l ∙ field_value s 0 k b' r' h in
+      let rest : r ≡ r' = sym (field_rest s 0 k b r refl) ∙ ap (λ (m : ℕ). drop (3 + m) s) l ∙ field_rest s 0 k b' r' h in
       by_test (eqb j k)
-      (λ e. rw (eqb-true j k e) (sym (field_value s 0 k b (spelled ks a d) refl) ∙ ap (λ (m : ℕ). part 3 (3 + m) s) l ∙ field_value s 0 k b' (spelled ks a' d') h))
-      (λ e. same_fields k ks (omega arith) (later n k ks up) (sym (field_rest s 0 k b (spelled ks a d) refl) ∙ ap (λ (m : ℕ). drop (3 + m) s) l ∙ field_rest s 0 k b' (spelled ks a' d') h) j (rw e at x))
+      (λ e. rw (eqb-true j k e) value)
+      (λ e. same_fields k ks (omega arith) (later n k ks up) rest j (rw e at x))

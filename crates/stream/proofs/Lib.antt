@@ -1,3 +1,4 @@
+pub mod Numbers
 pub mod FieldLaws
 pub mod GrammarLaws
 pub mod ReadLaws

@@ -1,22 +1,17 @@
 -- A command's value, read argument by argument: what fits is spelled, and what is spelled fits.
-use Rattle.std.specs.Prelude.{◌≡◌, Bool, false, cond, ℕ, zero, suc, ◌+◌, ◌-◌, ◌≤◌, ◌<◌, eqb, drop}
-use Rattle.std.proofs.Math.Path.{refl, sym, ap, ap₂}
-use Rattle.std.proofs.Common.{◌∙◌, subst, le_of_suc-le-suc, not-suc-le-zero, length-drop}
-use Rattle.std.proofs.Math.Bool.{true}
-use Rattle.std.proofs.lemmas.Bool.{false≢true}
-use mathlib.Core.List.{List, [], ◌∷◌, ◌++◌, append_assoc}
-use native.Mathlib.Omega.{arith}
-use Rattle.std.proofs.Math.ListN.{length}
-use borrow.Author.Tests.{eqb-true, eqb-false, eq-eqb, ne_eqb}
+use Rattle.std.specs.Prelude.{◌≡◌, Bool, false, true, cond, List, [], ◌∷◌, ◌++◌, ℕ, ◌+◌, ◌-◌, ◌≤◌, ◌<◌, eqb, length, drop, Some}
+use Rattle.std.proofs.Common.{refl, sym, ap, ap₂, ◌∙◌, subst, append_assoc, length-drop, eqb-true, eq-eqb, ne_eqb, arith}
+use borrow.Author.Tests.{eqb-false}
+use Rattle.std.proofs.lemmas.Option.{none-some, same_Some, cond_some, option_and_then_some}
 use Rattle.ground.specs.Search.{by_test}
-use Rattle.ground.specs.Lists.{Below, padded, below_take, below_drop}
+use Rattle.ground.specs.Lists.{Below, below_take, below_drop}
 use Rattle.stream.specs.declared.Field.{Field}
 use Rattle.stream.specs.declared.Field.TheVariants.{Whole, Cut, End}
 use Rattle.stream.specs.declared.Request.{Request}
 use Rattle.stream.specs.declared.Reading.{Reading}
 use Rattle.stream.specs.Fields.{Bytes, field, part, field_at, part_length, within}
 use Rattle.stream.proofs.FieldLaws.{part_none, whole_is_field, whole_short, field_is_whole, field_value, field_rest}
-use Rattle.stream.specs.Commands.{has_size, begun, is_argument, argument_is, took, read_one, read_all}
+use Rattle.stream.specs.Commands.{has_size, is_argument, argument_is, took, read_all}
 use Rattle.stream.specs.Grammar.{argument, spelled, among}
 use Rattle.stream.specs.RequestLaws.{Sound}
 use Rattle.stream.proofs.RequestLaws.{own, other, stays_sound, sized, in_bytes, short_argument, no_data}
@@ -24,44 +19,23 @@ use Rattle.stream.specs.GrammarLaws.{ascending}
 use Rattle.stream.proofs.GrammarLaws.{neither, above, up_to, later, not-among}
 use Rattle.stream.specs.ReadLaws.{said, tells, taken, Read, Done}
 
-module _ (v : Bytes) (r : Reading) (k : ℕ) (low : 0x80 < k) (fit : r.fits ≡ true) where
-  read-field : read_one v r k ≡ took v r k (field_at v r.at)
-  unfolding read_one
-  read-field = rw (ne_eqb k 0 (λ e. omega arith), fit)
-
-  read_whole : (s e : ℕ) → field_at v r.at ≡ Whole k s e → has_size k (e - s) ≡ true → read_one v r k ≡ taken v r k s e
+module _ (v : Bytes) (r : Reading) (k : ℕ) where
+  read_whole : (s e : ℕ) → field_at v r.at ≡ Whole k s e → has_size k (e - s) ≡ true → took v r k (field_at v r.at) ≡ Some (taken v r k s e)
   unfolding took is_argument
-  read_whole s e f size = read-field ∙ rw (f, eq-eqb k k refl, size)
+  read_whole s e f size = rw (f, eq-eqb k k refl, size)
 
   -- what is read is a whole field
-  fits_whole : (read_one v r k).fits ≡ true → (s : ℕ) × (e : ℕ) × (field_at v r.at ≡ Whole k s e) × (has_size k (e - s) ≡ true)
-  unfolding took begun
-  fits_whole h = go (field_at v r.at) refl (ap (λ (q : Reading). q.fits) (sym read-field) ∙ h)
-    where
-      go : (f : Field) → field_at v r.at ≡ f → (took v r k f).fits ≡ true → (s : ℕ) × (e : ℕ) × (field_at v r.at ≡ Whole k s e) × (has_size k (e - s) ≡ true)
-      go (Whole tag s e) q h =
-          let x : is_argument k tag (e - s) ≡ true = by_test (is_argument k tag (e - s)) (λ b. b) (λ b. absurd (false≢true (rw b at h))) in
-          let y = argument_is k tag (e - s) x in
-          (s, e, q ∙ ap (λ (n : ℕ). Whole n s e) y.0, y.1)
-      go (Cut tag) q h = absurd (false≢true h)
-      go End q h = absurd (false≢true h)
+  abbrev WholeField : Type 0
+  WholeField = (s : ℕ) × (e : ℕ) × (field_at v r.at ≡ Whole k s e) × (has_size k (e - s) ≡ true)
 
--- no value that failed fits again
-pub stuck : (v : Bytes) (ks : List ℕ) (r : Reading) → r.fits ≡ false → (read_all v r ks).fits ≡ false
-unfolding read_all read_one
-stuck v [] r h = h
-stuck v (k ∷ ks) r h = stuck v ks (read_one v r k) (by_test (eqb k 0) (λ e. rw (e, h)) (λ e. rw (e, h)))
-
-fit_before : (v : Bytes) (ks : List ℕ) (r : Reading) → (read_all v r ks).fits ≡ true → r.fits ≡ true
-fit_before v ks r h = by_test r.fits (λ e. e) (λ e. absurd (false≢true (sym (stuck v ks r e) ∙ h)))
-
--- zeros are passed over
-pub read-padded : (v : Bytes) (r : Reading) (n : ℕ) (ks : List ℕ) → length ks ≤ n → read_all v r (padded n ks) ≡ read_all v r ks
-unfolding read_all read_one padded
-read-padded v r zero [] h = refl
-read-padded v r zero (k ∷ ks) h = absurd (not-suc-le-zero h)
-read-padded v r (suc n) [] h = read-padded v r n [] (omega arith)
-read-padded v r (suc n) (k ∷ ks) h = read-padded v (read_one v r k) n ks (le_of_suc-le-suc h)
+  fits_whole : (q : Reading) (f : Field) → field_at v r.at ≡ f → took v r k f ≡ Some q → WholeField
+  unfolding took
+  fits_whole q (Whole tag s e) f h =
+      let x : is_argument k tag (e - s) ≡ true = (cond_some _ _ _ h).0 in
+      let y = argument_is k tag (e - s) x in
+      (s, e, f ∙ ap (λ (n : ℕ). Whole n s e) y.0, y.1)
+  fits_whole q (Cut tag) f h = absurd (none-some q h)
+  fits_whole q End f h = absurd (none-some q h)
 
 module _ (v : Bytes) (r : Reading) (k s e : ℕ) (low : 0x80 < k) (high : k ≤ 0x87) where
   next-blank : k < 0x87 → said v (taken v r k s e) ≡ []
@@ -109,7 +83,8 @@ module _ (t : ℕ) (v : Bytes) (all-bytes : Below 256 v) where
     unfolding spelled among
     before q read =
         let high = up_to n k ks up in
-        let mine : tells v q k ≡ part s e v = read.others k (not-among k ks k (later n k ks up) (omega arith)) ∙ next-own v r k s e low high length-fits (λ h. part_bytes s e v all-bytes) in
+        let own-value = next-own v r k s e low high length-fits (λ h. part_bytes s e v all-bytes) in
+        let mine : tells v q k ≡ part s e v = read.others k (not-among k ks k (later n k ks up) (omega arith)) ∙ own-value in
         record {
           bytes = whole_is_field v r.at k s e all-bytes whole
               ∙ ap₂ (λ (x y : Bytes). field k x ++ y) (sym mine) read.bytes
@@ -122,32 +97,33 @@ module _ (t : ℕ) (v : Bytes) (all-bytes : Below 256 v) where
           short = read.short;
         }
 
-  pub fits_read : (n : ℕ) (ks : List ℕ) (r : Reading) → 0x80 ≤ n → ascending n ks ≡ true → (n < 0x87 → said v r ≡ []) → Sound t r.asked → length (said v r) < 65536
-      → r.fits ≡ true → (read_all v r ks).fits ≡ true → Read t v ks r (read_all v r ks)
+  pub fits_read : (n : ℕ) (ks : List ℕ) (r q : Reading) → 0x80 ≤ n → ascending n ks ≡ true → (n < 0x87 → said v r ≡ []) → Sound t r.asked → length (said v r) < 65536
+      → read_all v r ks ≡ Some q → Read t v ks r q
   unfolding read_all spelled
-  fits_read n [] r base up clear c l fit h = record { bytes = refl; others = λ j x. refl; sound = c; short = l }
-  fits_read n (k ∷ ks) r base up clear c l fit h =
+  fits_read n [] r q base up clear c l h =
+      subst (λ (x : Reading). Read t v [] r x) (same_Some r q h) (record { bytes = refl; others = λ j x. refl; sound = c; short = l })
+  fits_read n (k ∷ ks) r q base up clear c l h =
+      option_and_then_some (λ (x : Reading). read_all v x ks) (took v r k (field_at v r.at)) q h λ x one rest.
       let u = above n k ks up in
-      let w = fits_whole v r k (omega arith) fit (fit_before v ks (read_one v r k) h) in
-      let is : read_one v r k ≡ taken v r k w.0 w.1 = read_whole v r k (omega arith) fit w.0 w.1 w.2 w.3 in
-      rw is
-      (before n k ks r w.0 w.1 base up clear w.2 w.3 (read_all v (taken v r k w.0 w.1) ks)
-      (fits_read k ks (taken v r k w.0 w.1) (omega arith) (later n k ks up)
+      let w = fits_whole v r k x (field_at v r.at) refl one in
+      let next = taken v r k w.0 w.1 in
+      let is : x ≡ next = same_Some x next (sym one ∙ read_whole v r k w.0 w.1 w.2 w.3) in
+      before n k ks r w.0 w.1 base up clear w.2 w.3 q
+      (fits_read k ks next q (omega arith) (later n k ks up)
       (next-blank v r k w.0 w.1 (omega arith) (up_to n k ks up))
       (step_sound n k ks r w.0 w.1 base up clear w.2 w.3 c)
       (step_short n k ks r w.0 w.1 base up clear w.2 w.3)
-      refl
-      (subst (λ (q : Reading). (read_all v q ks).fits ≡ true) is h)))
+      (subst (λ (y : Reading). read_all v y ks ≡ Some q) is rest))
 
 module _ (t : ℕ) (v : Bytes) (a : Request) (d : Bytes) (proper : Sound t a) (small : length d < 65536) where
   pub spelled-read : (n : ℕ) (ks : List ℕ) (r : Reading) → 0x80 ≤ n → ascending n ks ≡ true → (n < 0x87 → said v r ≡ []) → Sound t r.asked
-      → r.fits ≡ true → r.at ≤ length v → drop r.at v ≡ spelled ks a d → ((j : ℕ) → among j ks ≡ false → tells v r j ≡ argument j a d)
+      → r.at ≤ length v → drop r.at v ≡ spelled ks a d → ((j : ℕ) → among j ks ≡ false → tells v r j ≡ argument j a d)
       → Done t v a d (read_all v r ks)
   unfolding read_all spelled among
-  spelled-read n [] r base up clear c fit l h says =
+  spelled-read n [] r base up clear c l h says =
       let z = sym (length-drop r.at v) ∙ ap length h in
-      record { fits = fit; end = omega arith; says = λ j. says j refl; sound = c }
-  spelled-read n (k ∷ ks) r base up clear c fit l h says =
+      record { reading = r; fits = refl; end = omega arith; says = λ j. says j refl; sound = c }
+  spelled-read n (k ∷ ks) r base up clear c l h says =
       let u = above n k ks up in
       let b = argument k a d in
       let low : 0x80 < k = omega arith in
@@ -159,11 +135,11 @@ module _ (t : ℕ) (v : Bytes) (a : Request) (d : Bytes) (proper : Sound t a) (s
       let size : has_size k (length (part s e v)) ≡ true = rw value (sized k low high t a d proper) in
       let bytes : k < 0x83 → Below 256 (part s e v) = λ x. rw value (in_bytes k low high a d x) in
       let w = within v r.at k s e whole in
-      let is : read_one v r k ≡ taken v r k s e = read_whole v r k low fit s e whole (ap (has_size k) (sym (part_length s e v w.1 w.2)) ∙ size) in
+      let sized-whole : has_size k (e - s) ≡ true = ap (has_size k) (sym (part_length s e v w.1 w.2)) ∙ size in
+      let is : took v r k (field_at v r.at) ≡ Some (taken v r k s e) = read_whole v r k s e whole sized-whole in
       rw is
       (spelled-read k ks (taken v r k s e) (omega arith) (later n k ks up) (next-blank v r k s e low high)
       (stays_sound k low high t (part s e v) r.asked size bytes c)
-      refl
       w.2
       (field_rest v r.at k b (spelled ks a d) h)
       (λ j x. by_test (eqb j k)

@@ -1,11 +1,6 @@
 -- A request and its arguments: what is put in is what is said, and what is said is the request.
-use Rattle.std.specs.Prelude.{◌≡◌, [], ◌∷◌, ℕ, suc, ◌^◌, ◌≤◌, ◌<◌, leb, get_or}
-use Rattle.std.proofs.Math.Path.{refl, sym}
-use Rattle.std.proofs.Common.{ap, ◌∙◌, subst, arith}
-use Rattle.std.proofs.Math.Bool.{true, false}
-use Rattle.std.proofs.Math.Dec.{eqb}
-use Rattle.std.proofs.Math.ListN.{length}
-use borrow.Author.Tests.{eqb-true, leb-true, leb-false}
+use Rattle.std.specs.Prelude.{◌≡◌, [], ◌∷◌, ℕ, suc, ◌^◌, ◌≤◌, ◌<◌, leb, get_or, true, false, eqb, length}
+use Rattle.std.proofs.Common.{refl, sym, ap, ◌∙◌, subst, arith, eqb-true, leb-true, leb-false}
 use Rattle.ground.specs.Search.{by_test}
 use Rattle.ground.specs.Lists.{Below, listed}
 use Rattle.ground.specs.Rows.{row, digits, row_lt, digits-row, row-digits, digits-length, digits_below}

@@ -1,11 +1,7 @@
-use mathlib.Core.Path.{◌≡◌}
-use Prim.Native.Nat.{◌-◌, ◌≤◌}
-use lib.ListN.{length, drop}
-use Rattle.stream.specs.Commands.{read_all}
+use Rattle.std.proofs.Common.{◌≡◌, length, drop, option_and_then}
+use Rattle.stream.specs.Commands.{read_all, ended, decoded}
 use Rattle.stream.proofs.commands.decode.Given as goal
 
-abbrev pub invariant-loop-i : goal.invariant-loop-i
-invariant-loop-i l = (length l.arguments ≡ 5) × (l.i ≤ 5) × (read_all l.value l.r (drop l.i l.arguments) ≡ read_all l.value l.initial.r l.arguments)
-
-abbrev pub decreases-loop-i : goal.decreases-loop-i
-decreases-loop-i l = 5 - l.i
+-- the rest of the arguments read, and the end, give what the definition gives
+abbrev pub invariant-loop-wanted : goal.invariant-loop-wanted
+invariant-loop-wanted l = option_and_then (ended (length l.value)) (read_all l.value l.r (drop l.wanted-index l.arguments)) ≡ decoded l.tag l.value

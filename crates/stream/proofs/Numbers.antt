@@ -1,0 +1,21 @@
+-- Bytes as a number, the high byte first: the library's word for it is the row of digits at base 256.
+use Rattle.std.specs.Prelude.{◌≡◌, [], ◌∷◌, ℕ, suc, ◌+◌, ◌-◌, ◌≤◌, ◌<◌, length, get_or}
+use Rattle.std.proofs.Common.{drop-cons, arith}
+use Rattle.std.specs.Int.{w16, w32, from_be_bytes}
+use Rattle.ground.specs.Lists.{listed}
+use Rattle.ground.specs.Rows.{row}
+use Rattle.stream.specs.Fields.{Bytes, length_at}
+
+pub four_bytes : (b : Bytes) → length b ≡ 4 → from_be_bytes w32 b ≡ row 256 0 b
+unfolding row
+four_bytes b h = rw (listed 4 b h) (omega arith)
+
+-- the two bytes behind a field's tag are its length
+pub length_there : (s : Bytes) (at : ℕ) → at + 3 ≤ length s → from_be_bytes w16 (get_or s (at + 1) 0 ∷ get_or s (at + 2) 0 ∷ []) ≡ length_at s at
+unfolding length_at row
+length_there s at h =
+    let first : at + 1 < length s = omega arith in
+    let second : at + 2 < length s = omega arith in
+    let two : at + 3 - (at + 1) ≡ 2 = omega arith in
+    let next : suc (at + 1) ≡ at + 2 = omega arith in
+    rw (two, drop-cons s (at + 1) 0 first, ← next, drop-cons s (suc (at + 1)) 0 (omega arith)) (omega arith)
