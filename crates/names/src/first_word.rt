@@ -25,6 +25,7 @@ fn desk_start(word: &[u8]) -> Option<FirstWord>
 }
 
 // What a line that starts with this word is to say.
+#[tactic(auto, unfolding(crate::specs::Names::start_of))]
 pub fn start_of(word: &[u8]) -> Option<FirstWord>
     ensures { start_as result ≡ start_of word.now }
 {
