@@ -7,7 +7,7 @@ use Rattle.values.specs.declared.Origin.TheVariants.{Letters}
 use Rattle.values.specs.Sources.{source}
 use Rattle.words.specs.declared.Expected.{Expected}
 use Rattle.reader.specs.Line.{Line, wrong_line, so_far}
-use Rattle.reader.specs.Command.{read_word, read_words, ended_line, fields_of, command_line}
+use Rattle.reader.specs.Command.{read_word, read_words, ended_line, command_line}
 use Rattle.reader.specs.Raw.{raw_turn, raw_turns}
 
 module _ (l kept ends : List ℕ) where
@@ -35,9 +35,9 @@ module _ (l kept ends : List ℕ) where
   pub form_read : (t at : ℕ) (r : Line) (o : Option (Bor (List ℕ))) (fs d : Bor (List ℕ)) → r ≡ so_far Command t at (source Letters 0 0) → fs ≡ unwrap_or o d → d.now ≡ []
       → option_copied o ≡ arguments_of t → ended_line l (read_words l kept ends r fs.now) ≡ command_line t l kept ends at
   unfolding command_line
-  form_read t at r o fs d e f g h = ap₂ (λ (q : Line) (ks : List ℕ). ended_line l (read_words l kept ends q ks)) e (ap (λ (s : Bor (List ℕ)). s.now) f ∙ found o g ∙ ap fields_of h)
+  form_read t at r o fs d e f g h = ap₂ (λ (q : Line) (ks : List ℕ). ended_line l (read_words l kept ends q ks)) e (ap (λ (s : Bor (List ℕ)). s.now) f ∙ found o g ∙ ap (λ (x : Option (List ℕ)). unwrap_or x []) h)
     where
-      found : (o : Option (Bor (List ℕ))) → d.now ≡ [] → (unwrap_or o d).now ≡ fields_of (option_copied o)
+      found : (o : Option (Bor (List ℕ))) → d.now ≡ [] → (unwrap_or o d).now ≡ unwrap_or (option_copied o) []
       found None q = q
       found (Some s) q = refl
 

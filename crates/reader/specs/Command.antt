@@ -1,5 +1,5 @@
 -- A command: one word for each field, and nothing else.
-use Rattle.std.specs.Prelude.{true, cond, List, [], ◌∷◌, ℕ, ◌+◌, ◌-◌, eqb, ltb, length, Option, None, Some}
+use Rattle.std.specs.Prelude.{true, cond, List, [], ◌∷◌, ℕ, ◌+◌, ◌-◌, eqb, ltb, length, unwrap_or}
 use Rattle.names.specs.declared.Says.TheVariants.{Command}
 use Rattle.stream.specs.Commands.{arguments_of}
 use Rattle.values.specs.declared.Origin.TheVariants.{Letters}
@@ -45,10 +45,5 @@ nothing_else r (NoWord at) = r
 unfoldable pub ended_line : List ℕ → Line → Line
 ended_line l r = cond r.fits (nothing_else r (word_at l r.at)) r
 
--- the fields of the command t, in ascending tags
-abbrev pub fields_of : Option (List ℕ) → List ℕ
-fields_of None = []
-fields_of (Some ks) = ks
-
 unfoldable pub command_line : ℕ → List ℕ → List ℕ → List ℕ → ℕ → Line
-command_line t l kept ends at = ended_line l (read_words l kept ends (so_far Command t at (source Letters 0 0)) (fields_of (arguments_of t)))
+command_line t l kept ends at = ended_line l (read_words l kept ends (so_far Command t at (source Letters 0 0)) (unwrap_or (arguments_of t) []))
