@@ -4,11 +4,11 @@ use Rattle.std.proofs.Common.{sym, ap, ◌∙◌, arith, lit≤}
 use mathlib.Core.List.{List, [], ◌∷◌, head-eq_of_cons-eq}
 use Rattle.ground.specs.Rows.{row}
 use Rattle.state.specs.declared.Place.{Place}
-use Rattle.state.specs.State.{vacant, seat, bare, holders, leave, shut_to, seat_of, key_at, named}
+use Rattle.state.specs.State.{vacant, seat, bare, holders, leave, shut_to, key_at, named}
 use Rattle.table.specs.Entries.{fits, id_of, entry_in, entry_of}
 use Rattle.table.specs.Passwords.{big, same, authentic}
 use Rattle.rules.specs.Commands.{UserCommand, LAU, CPW, refusals, effect}
-use Rattle.rules.specs.World.{shut_for}
+use Rattle.rules.specs.World.{seat_of, shut_for}
 use Rattle.rules.specs.Refusals.{test}
 use Rattle.rules.specs.Step.{carry, rule, step}
 use Rattle.merging.specs.Ids.{distinct, different}

@@ -3,16 +3,16 @@ use Rattle.std.specs.Prelude.{◌≡◌, refl, Bool, true, List, ℕ, ◌≤◌,
 use Rattle.std.proofs.Common.{sym, ◌∙◌, true≢false}
 use Rattle.std.proofs.Math.Path.{ap}
 use Rattle.std.proofs.Math.Bool.{false}
-use Rattle.std.proofs.Math.Option.{Option, none, some}
+use Rattle.std.specs.Prelude.{Option, None, Some}
 use Rattle.std.proofs.Math.Dec.{eqb}
 use borrow.Author.Tests.{ne_eqb}
 use Rattle.state.specs.declared.Holdings.{Holdings}
-use Rattle.state.specs.declared.Seat.{Seat}
-use Rattle.state.specs.State.{Bytes, find, seat_of}
+use Rattle.rules.specs.World.{Seat}
+use Rattle.state.specs.State.{Bytes, find}
 use Rattle.table.specs.Entries.{entry_of}
 use Rattle.table.specs.Passwords.{sealed}
 use Rattle.table.proofs.Laws.{sealed_eight}
-use Rattle.rules.specs.World.{World, Own, own, shut_for, current, key1}
+use Rattle.rules.specs.World.{seat_of, World, Own, own, shut_for, current, key1}
 use Rattle.rules.specs.Commands.{Effect, refused, gives, keeps, leaves, enters, writes}
 use Rattle.rules.specs.Step.{carry}
 use Rattle.properties.specs.Single.{count}
@@ -38,10 +38,10 @@ with_entry o b = record { current = o.current; old = o.old; due = o.due; fits = 
 advance : ℕ → Effect → Own → Own
 advance u (refused n) o = o
 advance u (gives n b) o = o
-advance u (keeps h) o = with_seat o (some h)
-advance u leaves o = with_seat o none
+advance u (keeps h) o = with_seat o (Some h)
+advance u leaves o = with_seat o None
 advance u (enters password) o = with_entry o (become (sealed (current 1 o) u password) o.entry)
-advance u (writes b h) o = with_seat o (some h)
+advance u (writes b h) o = with_seat o (Some h)
 
 -- the table's length, and so whether it fits, stays
 entered : (v u : ℕ) (password : Bytes) (w : World) (x : Option Bytes) → entry_of v (carry u (enters password) w).table ≡ x
@@ -74,10 +74,10 @@ own-mine u (writes b h) w c s = ap (with_seat (own u w)) (give-mine u h w.facili
 -- a seat tells what is held
 pub seat-find : (o o' : Option Holdings) → seat_of o ≡ seat_of o' → o ≡ o'
 unfolding seat_of
-seat-find none none q = refl
-seat-find none (some h) q = absurd (true≢false (sym (ap (λ (s : Seat). s.active) q)))
-seat-find (some h) none q = absurd (true≢false (ap (λ (s : Seat). s.active) q))
-seat-find (some h) (some h') q = ap {B = Option Holdings} (λ x. some x) (ap (λ (s : Seat). s.holdings) q)
+seat-find None None q = refl
+seat-find None (Some h) q = absurd (true≢false (sym (ap (λ (s : Seat). s.active) q)))
+seat-find (Some h) None q = absurd (true≢false (ap (λ (s : Seat). s.active) q))
+seat-find (Some h) (Some h') q = ap {B = Option Holdings} (λ x. Some x) (ap (λ (s : Seat). s.holdings) q)
 
 places_length : (u : ℕ) (e : Effect) (w : World) → length (carry u e w).facility.places ≡ length w.facility.places
 places_length u (refused n) w = refl

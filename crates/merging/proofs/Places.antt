@@ -2,7 +2,7 @@
 use Rattle.std.specs.Prelude.{◌≡◌, refl, Bool, true, false, cond, List, [], ◌∷◌, ℕ, suc, ◌≤◌, eqb, length}
 use Rattle.std.proofs.Common.{sym, ap, ◌∙◌, true≢false, arith, lit≤, eqb-true, eq-eqb}
 use Rattle.std.proofs.lemmas.Bool.{false≢true}
-use Rattle.std.proofs.Math.Option.{Option, none, some}
+use Rattle.std.specs.Prelude.{Option, None, Some}
 use Rattle.ground.specs.Search.{by_test}
 use Rattle.state.specs.declared.Holdings.{Holdings}
 use Rattle.state.specs.declared.Place.{Place}
@@ -17,37 +17,37 @@ by_place {ℓ} : {P : Type ℓ} (u : ℕ) (p : Place)
 by_place u p mine other free = by_test p.taken (λ k. by_test (eqb u p.user) (mine k) (other k)) free
 
 -- u has no place, or he has one
-pub by_find {ℓ} : {P : Type ℓ} (o : Option Holdings) → (o ≡ none → P) → ((g : Holdings) → o ≡ some g → P) → P
-by_find none f g = f refl
-by_find (some h) f g = g h refl
+pub by_find {ℓ} : {P : Type ℓ} (o : Option Holdings) → (o ≡ None → P) → ((g : Holdings) → o ≡ Some g → P) → P
+by_find None f g = f refl
+by_find (Some h) f g = g h refl
 
 -- ---- who has a place, and who has none
 
-pub find_none : (u : ℕ) (ps : List Place) → mem u (holders ps) ≡ false → find u ps ≡ none
+pub find_none : (u : ℕ) (ps : List Place) → mem u (holders ps) ≡ false → find u ps ≡ None
 find_none u [] n = refl
 find_none u (p ∷ ps) n =
     by_place u p (λ k e. absurd (true≢false (rw (k, e) at n))) (λ k e. rw (k, e) (find_none u ps (rw (k, e) at n))) (λ k. rw k (find_none u ps (rw k at n)))
 
-pub none_find : (u : ℕ) (ps : List Place) → find u ps ≡ none → mem u (holders ps) ≡ false
+pub none_find : (u : ℕ) (ps : List Place) → find u ps ≡ None → mem u (holders ps) ≡ false
 none_find u [] n = refl
 none_find u (p ∷ ps) n =
     by_place u p (λ k e. let z : true ≡ false = cc (rw (k, e) at n) in rw (k, e) z) (λ k e. rw (k, e) (none_find u ps (rw (k, e) at n))) (λ k. rw k (none_find u ps (rw k at n)))
 
-count_none : (u : ℕ) (ps : List Place) → count u ps ≤ 0 → find u ps ≡ none
+count_none : (u : ℕ) (ps : List Place) → count u ps ≤ 0 → find u ps ≡ None
 count_none u [] c = refl
 count_none u (p ∷ ps) c =
     by_test (has u p)
     (λ e. absurd (let z : suc (count u ps) ≤ 0 = rw e at c in omega arith))
-    (λ e. ap (λ (b : Bool). cond b (some p.holdings) (find u ps)) e ∙ count_none u ps (rw e at c))
+    (λ e. ap (λ (b : Bool). cond b (Some p.holdings) (find u ps)) e ∙ count_none u ps (rw e at c))
 
 -- ---- `put`: the place that u has
 
-pub put-mine : (u : ℕ) (g h : Holdings) (ps : List Place) → find u ps ≡ some g → find u (put u (seat u h) ps) ≡ some h
+pub put-mine : (u : ℕ) (g h : Holdings) (ps : List Place) → find u ps ≡ Some g → find u (put u (seat u h) ps) ≡ Some h
 put-mine u g h [] m = let z : true ≡ false = cc in absurd (true≢false z)
 put-mine u g h (p ∷ ps) m =
     by_place u p (λ k e. rw (k, e, eq-eqb u u refl)) (λ k e. rw (k, e, e) (put-mine u g h ps (rw (k, e) at m))) (λ k. rw k (put-mine u g h ps (rw k at m)))
 
-pub put-vacant : (u : ℕ) (ps : List Place) → count u ps ≤ 1 → find u (put u vacant ps) ≡ none
+pub put-vacant : (u : ℕ) (ps : List Place) → count u ps ≤ 1 → find u (put u vacant ps) ≡ None
 put-vacant u [] c = refl
 put-vacant u (p ∷ ps) c =
     by_place u p
@@ -61,7 +61,7 @@ put-length u x (p ∷ ps) = by_test (has u p) (λ e. rw e) (λ e. rw e (ap suc (
 
 -- ---- `admit`: the first free place
 
-admit-mine : (u : ℕ) (h : Holdings) (ps : List Place) → find u ps ≡ none → all_taken ps ≡ false → find u (admit (seat u h) ps) ≡ some h
+admit-mine : (u : ℕ) (h : Holdings) (ps : List Place) → find u ps ≡ None → all_taken ps ≡ false → find u (admit (seat u h) ps) ≡ Some h
 admit-mine u h [] n a = absurd (true≢false a)
 admit-mine u h (p ∷ ps) n a =
     by_place u p (λ k e. let z : true ≡ false = cc (rw (k, e) at n) in absurd (true≢false z))
@@ -73,7 +73,7 @@ admit-length x (p ∷ ps) = by_test p.taken (λ k. rw k (ap suc (admit-length x 
 
 -- ---- `give` and `leave`
 
-pub give-mine : (u : ℕ) (h : Holdings) (ps : List Place) → shut_to (find u ps) ps ≡ false → find u (give u h ps) ≡ some h
+pub give-mine : (u : ℕ) (h : Holdings) (ps : List Place) → shut_to (find u ps) ps ≡ false → find u (give u h ps) ≡ Some h
 unfolding give shut_to
 give-mine u h ps s = by_find (find u ps) (λ e. rw e (admit-mine u h ps e (rw e at s))) (λ g e. rw e (put-mine u g h ps e))
 
@@ -81,7 +81,7 @@ pub give-length : (u : ℕ) (h : Holdings) (ps : List Place) → length (give u 
 unfolding give
 give-length u h ps = by_find (find u ps) (λ e. rw e (admit-length (seat u h) ps)) (λ g e. rw e (put-length u (seat u h) ps))
 
-pub leave-mine : (u : ℕ) (ps : List Place) → count u ps ≤ 1 → find u (leave u ps) ≡ none
+pub leave-mine : (u : ℕ) (ps : List Place) → count u ps ≤ 1 → find u (leave u ps) ≡ None
 unfolding leave
 leave-mine u ps c = put-vacant u ps c
 
@@ -134,12 +134,12 @@ taken-length [] a = refl
 taken-length (p ∷ ps) a = by_test p.taken (λ k. rw k (ap suc (taken-length ps (rw k at a)))) (λ k. absurd (false≢true (rw k at a)))
 
 -- who: identifiers, no more than there are places, among them all that hold places. To each of them the facility is open
-module _ (who : List ℕ) (ps : List Place) (single : Single ps) (outside : (v : ℕ) → mem v who ≡ false → find v ps ≡ none) (enough : length who ≤ length ps) where
+module _ (who : List ℕ) (ps : List Place) (single : Single ps) (outside : (v : ℕ) → mem v who ≡ false → find v ps ≡ None) (enough : length who ≤ length ps) where
   among : (v : ℕ) → mem v (holders ps) ≡ true → mem v who ≡ true
   among v h = by_test (mem v who) (λ t. t) (λ t. absurd (false≢true (sym (none_find v ps (outside v t)) ∙ h)))
 
   module _ (u : ℕ) (member : mem u who ≡ true) where
-    room : find u ps ≡ none → all_taken ps ≡ false
+    room : find u ps ≡ None → all_taken ps ≡ false
     room n = by_test (all_taken ps) (λ a. absurd (full a)) (λ a. a)
       where
         all : (v : ℕ) → mem v (u ∷ holders ps) ≡ true → mem v who ≡ true

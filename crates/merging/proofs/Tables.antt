@@ -3,7 +3,7 @@ use Rattle.std.specs.Prelude.{◌≡◌, refl, ◌++◌, length, take, drop}
 use Rattle.std.proofs.Math.Path.{sym}
 use Rattle.std.proofs.Common.{ap, ◌∙◌, subst, arith, take-append-drop, drop-drop}
 use Rattle.std.proofs.Math.Bool.{false}
-use Rattle.std.proofs.Math.Option.{some}
+use Rattle.std.specs.Prelude.{Some}
 use Prim.Native.Nat.{ℕ, zero, suc, ◌*◌, ◌/◌, ◌≤◌}
 use Rattle.std.proofs.Math.Dec.{eqb}
 use borrow.Author.Tests.{eqb-true, eqb-false, eq-eqb, ne_eqb}
@@ -52,7 +52,7 @@ same_ext (suc n) a t t' s s' h =
   where
     own-bytes : take 8 (drop 4 t) ≡ take 8 (drop 4 t')
     own-bytes =
-        let q : some (take 8 (drop 4 t)) ≡ some (take 8 (drop 4 t')) =
+        let q : Some (take 8 (drop 4 t)) ≡ Some (take 8 (drop 4 t')) =
         rw (eq-eqb (id_of a) (id_of t) (one_id a t s.0), eq-eqb (id_of a) (id_of t') (one_id a t' s'.0)) at (h (id_of a)) in
         cc
 

@@ -1,6 +1,6 @@
 -- Demand 3: users' lists of commands do not disturb one another, however they are merged. This file says it; `Theorem` proves it of `step`.
 use Rattle.std.specs.Prelude.{◌≡◌, cond, List, [], ◌∷◌, ◌++◌, ℕ, ◌≤◌, eqb, length}
-use Rattle.std.proofs.Math.Option.{Option}
+use Rattle.std.specs.Prelude.{Option}
 use Rattle.state.specs.declared.Holdings.{Holdings}
 use Rattle.state.specs.State.{Bytes, holders, find}
 use Rattle.rules.specs.World.{World}

@@ -1,7 +1,7 @@
 -- One user's command, whatever it is: it sees and alters its issuer's own place and own entry alone.
 use Rattle.std.specs.Prelude.{◌≡◌, Bool, List, ℕ, ◌≤◌, length}
 use Rattle.std.proofs.Math.Bool.{false}
-use Rattle.std.proofs.Math.Option.{none}
+use Rattle.std.specs.Prelude.{None}
 use Rattle.state.specs.State.{Bytes, find}
 use Rattle.rules.specs.World.{World, Own, own, shut_for}
 use Rattle.rules.specs.Commands.{Effect}
@@ -15,7 +15,7 @@ use Rattle.merging.specs.Tables.{From}
 
 pub record Fine (who : List ℕ) (a : Bytes) (w : World) : Type 0 where
   pub single : Single w.facility.places
-  pub outside : (v : ℕ) → mem v who ≡ false → find v w.facility.places ≡ none
+  pub outside : (v : ℕ) → mem v who ≡ false → find v w.facility.places ≡ None
   pub enough : length who ≤ length w.facility.places
   pub table : From a w.table
 
