@@ -2,7 +2,7 @@
 use Rattle.std.specs.Prelude.{true, false, List, [], ◌∷◌, ◌++◌, map, ℕ, zero, suc, ◌+◌, replicate}
 use Rattle.cipher.specs.declared.modes.Mode.TheVariants.{Cbce}
 use Rattle.state.specs.declared.Place.{Place}
-use Rattle.state.specs.State.{Bytes, no_interchange_key, vacant, seat, bare}
+use Rattle.state.specs.State.{held, Bytes, no_interchange_key, vacant, seat, bare}
 use Rattle.rules.specs.World.{World}
 use Rattle.rules.specs.Commands.{UserCommand, LAU, LIV, LDK, mode}
 use Rattle.rules.specs.Step.{Told, number_of}
@@ -28,7 +28,7 @@ entry u x = 0 ∷ 0 ∷ 0 ∷ u ∷ x
 abbrev pub start : List Place → World
 start ps = record {
   facility = record {
-    current_keys = record { present = true; key = record { 0 = key } } ∷ replicate 14 no_interchange_key;
+    current_keys = held (record { 0 = key }) ∷ replicate 14 no_interchange_key;
     old_keys = replicate 15 no_interchange_key;
     due = false;
     places = ps;
