@@ -65,26 +65,12 @@ unfolding returned answered
 back f (Ok o) t out = done o o.reply refl f t out
 back f (Err e) t out = ap (λ (x : Refusal). Err x) (numbered e)
 
--- what is lent stands beside the answer, whichever that is
-left-table : (f : Facility) (r : Result Outcome Refusal) (t out : Bytes) → (left f r t out).world.table ≡ t
-left-table f (Ok o) t out = refl
-left-table f (Err e) t out = refl
-
-told-output : (o : Outcome) (reply : Reply) (t out : Bytes) → (left o.state (Ok (record { state = o.state; reply = reply })) t out).answered.output ≡ out
-told-output o Plain t out = refl
-told-output o (Block b) t out = refl
-told-output o (Output n) t out = refl
-
-left-output : (f : Facility) (r : Result Outcome Refusal) (t out : Bytes) → (left f r t out).answered.output ≡ out
-left-output f (Ok o) t out = told-output o o.reply t out
-left-output f (Err e) t out = refl
-
 -- reply, state, table and output
 pub same : (f : Facility) (r r' : Result Outcome Refusal) (t t' out out' : Bytes) → left f r t out ≡ left f r' t' out' → (r ≡ r') × (t ≡ t') × (out ≡ out')
 same f r r' t t' out out' e = (
     sym (back f r t out) ∙ ap returned e ∙ back f r' t' out',
-    sym (left-table f r t out) ∙ ap (λ (x : Stepped). x.world.table) e ∙ left-table f r' t' out',
-    sym (left-output f r t out) ∙ ap (λ (x : Stepped). x.answered.output) e ∙ left-output f r' t' out',
+    ap (λ (x : Stepped). x.world.table) e,
+    ap (λ (x : Stepped). x.answered.output) e,
   )
 
 pub determined : (f : Facility) (c : Command) (r r' : Result Outcome Refusal) → Steps f c r → Steps f c r' → r ≡ r'

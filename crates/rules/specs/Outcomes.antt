@@ -1,7 +1,7 @@
 -- The forms of the commands' contracts: what the code returned, with the table and the output as it left them, is one step.
 use Rattle.std.specs.Prelude.{◌≡◌, ℕ, length, Result, Ok, Err}
 use Rattle.state.specs.declared.Facility.{Facility}
-use Rattle.state.specs.State.{Bytes}
+use Rattle.state.specs.State.{Bytes, zeros}
 use Rattle.rules.specs.declared.Refusal.{Refusal}
 use Rattle.rules.specs.declared.Refusal.TheVariants.{DataLength, OutputLength}
 use Rattle.cipher.specs.declared.modes.Misfit.{Misfit}
@@ -12,20 +12,36 @@ use Rattle.rules.specs.declared.Outcome.{Outcome}
 use Rattle.rules.specs.World.{over}
 use Rattle.rules.specs.Refusals.{number}
 use Rattle.rules.specs.Commands.{Command}
-use Rattle.rules.specs.Step.{Told, plain, Answer, Gave, Wrote, Refused, Done, effected, step}
-use Rattle.rules.specs.Step.{result}
+use Rattle.rules.specs.Step.{Answer, Gave, Wrote, Refused, Done, result, step}
 use Rattle.rules.specs.Step.{Result as Stepped}
 
--- what a reply tells, with the output as it then is
-abbrev pub told_by : Reply → Bytes → Told
-told_by Plain out = plain Done out
-told_by (Block b) out = record { answer = Gave 8; block = b; output = out }
-told_by (Output n) out = plain (Wrote n) out
+-- ---- what the code returned: the answer, its eight bytes, and the facility. A refusal is its number, and the facility stays
 
--- A refusal is its number, and the facility stays.
+abbrev pub replied : Reply → Answer
+replied Plain = Done
+replied (Block b) = Gave 8
+replied (Output n) = Wrote n
+
+abbrev pub given : Reply → Bytes
+given Plain = zeros
+given (Block b) = b
+given (Output n) = zeros
+
+abbrev pub answer_of : Result Outcome Refusal → Answer
+answer_of (Ok o) = replied o.reply
+answer_of (Err e) = Refused (number e)
+
+abbrev pub block_of : Result Outcome Refusal → Bytes
+block_of (Ok o) = given o.reply
+block_of (Err e) = zeros
+
+abbrev pub state_of : Facility → Result Outcome Refusal → Facility
+state_of f (Ok o) = o.state
+state_of f (Err e) = f
+
+-- the same with the table and the output as the command left them
 abbrev pub left : Facility → Result Outcome Refusal → Bytes → Bytes → Stepped
-left f (Ok r) t out = result (told_by r.reply out) (over r.state t)
-left f (Err e) t out = result (plain (Refused (number e)) out) (over f t)
+left f r t out = result (record { answer = answer_of r; block = block_of r; output = out }) (over (state_of f r) t)
 
 -- a command that is lent no buffer: whatever table and output there are, they stay
 abbrev pub Steps : Facility → Command → Result Outcome Refusal → Type 0
