@@ -1,5 +1,5 @@
 -- A stream carried out: its commands one after the other, each answered, and the lines that say so.
-use Rattle.std.specs.Prelude.{◌≡◌, cond, take, drop}
+use Rattle.std.specs.Prelude.{◌≡◌, take, drop, Option, Some, None}
 use Rattle.std.proofs.Math.Path.{refl, sym, ap}
 use Rattle.std.proofs.Common.{◌∙◌, arith}
 use mathlib.Core.List.{List, [], ◌∷◌, ◌++◌, append-nil}
@@ -14,20 +14,16 @@ use Rattle.stream.specs.Commands.{decoded}
 use Rattle.printout.specs.Page.{Page, entered, then}
 use Rattle.printout.specs.Lines.{line}
 use Rattle.state.specs.State.{Bytes}
-use Rattle.rules.specs.declared.Answer.{Answer}
-use Rattle.rules.specs.declared.Answer.TheVariants.{Done, Gave, Wrote, Refused}
-use Rattle.rules.specs.declared.Outcome.{Outcome}
-use Rattle.rules.specs.World.{World, over as world}
-use Rattle.rules.specs.Step.{Result, result, Told, plain, number_of}
-use Rattle.rules.specs.Outcomes.{refused_of, left as leftBy}
-use Rattle.state.specs.declared.Facility.{Facility}
+use Rattle.rules.specs.World.{World}
+use Rattle.rules.specs.Step.{Answer, Done, Gave, Wrote, Refused, Result, result, Told, plain, number_of}
 use Rattle.facility.specs.Requests.{performed}
 
 -- ---- one command
 
 -- what a value says is carried out; "anything else in the value, or an unknown tag, is 16"
-abbrev pub obeyed : World → Reading → Bytes → Bytes → Result
-obeyed w r v out = cond r.fits (performed w r.asked (drop r.text v) out) (result (plain (Refused 16) out) w)
+abbrev pub obeyed : World → Option Reading → Bytes → Bytes → Result
+obeyed w None v out = result (plain (Refused 16) out) w
+obeyed w (Some r) v out = performed w r.asked (drop r.text v) out
 
 unfoldable pub answer_to : World → ℕ → Bytes → Bytes → Result
 answer_to w tag v out = obeyed w (decoded tag v) v out
@@ -122,29 +118,6 @@ turn_of (Whole tag start end) v w out p i =
     reached (answer_to w tag v out).world (answer_to w tag v out).answered.output (entered (line_of i (answered tag (answer_to w tag v out).answered)) p) (i + 1)
 turn_of (Cut tag) v w out p i = reached w out (entered (line_of i (answered tag (plain (Refused 17) out))) p) i
 turn_of End v w out p i = reached w out p i
-
--- ---- what the code did, at each kind of what stands there
-
-module _ (f : Field) (v : Bytes) (w : World) (out : Bytes) (p : Page) (i : ℕ) where
-  pub by_whole : (tag start end : ℕ) → f ≡ Whole tag start end → (done : Outcome) (t out' : Bytes) → leftBy done t out' ≡ answer_to w tag v out
-      → (q : Page) → q ≡ entered (line_of i (answered tag (leftBy done t out').answered)) p
-      → reached (world done.state t) out' q (i + 1) ≡ turn_of f v w out p i
-  unfolding turn_of
-  by_whole tag start end e done t out' d q g =
-      ap (λ (x : Page). reached (world done.state t) out' x (i + 1)) g
-      ∙ ap (λ (a : Result). reached a.world a.answered.output (entered (line_of i (answered tag a.answered)) p) (i + 1)) d
-      ∙ sym (ap (λ (x : Field). turn_of x v w out p i) e)
-
-  pub by_cut : (tag : ℕ) → f ≡ Cut tag → (g : Facility) (done : Outcome) → done ≡ refused_of g 17
-      → (q : Page) → q ≡ entered (line_of i (answered tag (leftBy done [] out).answered)) p → reached w out q i ≡ turn_of f v w out p i
-  unfolding turn_of
-  by_cut tag e g done d q h =
-      ap (λ (x : Page). reached w out x i) (h ∙ ap (λ (x : Outcome). entered (line_of i (answered tag (leftBy x [] out).answered)) p) d)
-      ∙ sym (ap (λ (x : Field). turn_of x v w out p i) e)
-
-  pub by_end : f ≡ End → reached w out p i ≡ turn_of f v w out p i
-  unfolding turn_of
-  by_end e = sym (ap (λ (x : Field). turn_of x v w out p i) e)
 
 -- ---- one turn of the loop
 

@@ -1,25 +1,21 @@
-use Rattle.std.proofs.Common.{◌≡◌, ◌<◌, ◌≤◌, ◌+◌, ℕ, length, sym, ap, ap₂, subst, ◌∙◌, arith}
+use Rattle.std.proofs.Common.{◌≡◌, ◌<◌, ◌≤◌, ◌+◌, ℕ, length, sym, ap, ap₂, subst, ◌∙◌, arith, rules}
 use Rattle.rules.specs.World.{World, over}
-use Rattle.printout.specs.Page.{Page, page}
+use Rattle.printout.specs.Page.{Page}
+use Rattle.printout.specs.Inked.{sheet}
 use Rattle.stream.specs.Fields.{Bytes, field_at, value_at, past_at, further}
-use Rattle.session.specs.Run.{Reached, turn_of, leaves, ran_from, printed_from, printed_run, goes, turn_end}
+use Rattle.session.specs.Run.{Reached, turn_of, ran_from, printed_from, printed_run, goes, turn_end}
 use Rattle.stream.specs.declared.Field.{Field}
-use Rattle.session.specs.declared.run.Going.{Going}
-use Rattle.session.specs.declared.run.Printed.{Printed}
 use Rattle.session.proofs.run.run.Goals as goal
 
 pub loop-r-init : goal.loop-r-init
 unfolding printed_run
 loop-r-init c =
-    let start = c.begun-d.ensures in
     let at : c.new-r.result.at ≡ 0 = c.new-r.ensures.1 in
-    let ordinal : c.begun-d.result.ordinal ≡ 1 = ap (λ (d : Going). d.ordinal) start in
     record {
       stream = ap (λ b. b.now) c.new-r.ensures.0;
-      ordinal = omega (arith, ordinal);
-      printed =
-          ap (λ (n : ℕ). printed_from c.begun-d.result.ordinal (page c.args.paper.now c.begun-d.result.filled) (ran_from c.args.s.now (over c.begun-d.result.state c.args.table.now) c.args.out.now n)) at
-          ∙ ap (λ (d : Going). printed_from d.ordinal (page c.args.paper.now d.filled) (ran_from c.args.s.now (over d.state c.args.table.now) c.args.out.now 0)) start;
+      ordinal = omega (arith, at);
+      printed = ap (λ (n : ℕ). printed_from 1 (sheet c.args.page.now) (ran_from c.args.s.now (over c.args.f c.args.table.now) c.args.out.now n)) at;
+      lent = search rules;
     }
 
 pub loop-r-smaller : goal.loop-r-smaller
@@ -35,13 +31,13 @@ loop-r-preserved c =
     let i : ℕ = c.loop-r.d.ordinal in
     let w : World = over c.loop-r.d.state c.loop-r.table in
     let out : Bytes = c.loop-r.out in
-    let p : Page = page c.loop-r.paper c.loop-r.d.filled in
+    let p : Page = sheet c.loop-r.page in
     let stream = c.loop-r.invariant.stream in
     let more : at < length s = omega (arith, c.loop-r-test.true, ap length stream) in
     let turned =
-    c.turn-d.ensures
+    c.turn-d.ensures.reached
     ∙ ap₂ (λ (f : Field) (v : Bytes). turn_of f v w out p i)
-    (c.next.ensures ∙ ap (λ (x : Bytes). field_at x at) stream)
+    (c.field.ensures ∙ ap (λ (x : Bytes). field_at x at) stream)
     (c.value.ensures ∙ ap (λ (x : Bytes). value_at x at) stream) in
     let moved : c.past-r.result.at ≡ past_at s at = c.past-r.ensures.1 ∙ ap (λ (x : Bytes). past_at x at) stream in
     let Goes : Reached → Type 0 =
@@ -51,15 +47,15 @@ loop-r-preserved c =
       stream = ap (λ b. b.now) c.past-r.ensures.0 ∙ stream;
       ordinal = omega (arith, moved, there.0);
       printed =
-          ap (λ (n : ℕ). printed_from c.turn-d.result.ordinal (page c.turn-d.new.paper c.turn-d.result.filled) (ran_from s (over c.turn-d.result.state c.turn-d.new.table) c.turn-d.new.out n)) moved
+          ap (λ (n : ℕ). printed_from c.turn-d.result.ordinal (sheet c.turn-d.new.page) (ran_from s (over c.turn-d.result.state c.turn-d.new.table) c.turn-d.new.out n)) moved
           ∙ there.1
           ∙ c.loop-r.invariant.printed;
+      lent = search rules;
     }
 
-pub returns : goal.returns
-returns c =
+pub returns-clause-run : goal.returns-clause-run
+returns-clause-run c =
     let d = c.loop-r.d in
     let at_end : length c.args.s.now ≤ c.loop-r.r.at = omega (arith, c.loop-r-test.false, ap length c.loop-r.invariant.stream) in
-    ap (λ (e : Printed). leaves (over e.state c.loop-r.table) c.loop-r.out (page c.loop-r.paper e.filled)) c.ended.ensures
-    ∙ sym (turn_end c.args.s.now (over d.state c.loop-r.table) c.loop-r.out c.loop-r.r.at d.ordinal (page c.loop-r.paper d.filled) at_end)
+    sym (turn_end c.args.s.now (over d.state c.loop-r.table) c.loop-r.out c.loop-r.r.at d.ordinal (sheet c.loop-r.page) at_end)
     ∙ c.loop-r.invariant.printed
