@@ -2,17 +2,16 @@
 use Rattle.std.specs.Prelude.{◌≡◌, Bool, true, false, cond, ◌↔◌, eqb, leb, ltb, length, get_or, drop}
 use Rattle.std.proofs.Math.Path.{refl}
 use Rattle.std.proofs.Common.{sym, ap, ◌∙◌, arith, ne_eqb, leb-true, leb-false, ltb-true, ltb-false}
-use Rattle.std.proofs.Math.Option.{Option, none, some}
+use Rattle.std.specs.Prelude.{Option, None, Some}
 use mathlib.Core.List.{[], ◌∷◌}
 use Prim.Native.Nat.{ℕ, ◌+◌, ◌-◌, ◌≤◌}
 use Rattle.stream.specs.declared.Field.{Field}
 use Rattle.stream.specs.declared.Field.TheVariants.{Whole, Cut, End}
 use Rattle.stream.specs.Fields.{Bytes, length_at, field_at}
 use Rattle.stream.specs.Commands.{decoded}
-use Rattle.rules.specs.declared.Answer.TheVariants.{Refused}
 use Rattle.rules.specs.World.{World}
 use Rattle.rules.specs.Commands.{Command}
-use Rattle.rules.specs.Step.{result, plain, number_of, step}
+use Rattle.rules.specs.Step.{Refused, result, plain, number_of, step}
 use Rattle.facility.specs.Requests.{command_of, carried_out, performed}
 use Rattle.properties.proofs.Demand1.{never_17, two_digits}
 use Rattle.session.specs.Run.{answer_to, answered, ran, go_on, ran_from, turn}
@@ -27,8 +26,8 @@ unfolding answer_to performed
 whole_by P form command w t v out = by_fit (decoded t v).fits
   where
     by_command : (o : Option Command) → P (number_of (carried_out w o out).answered.answer)
-    by_command none = form
-    by_command (some c) = command w c out
+    by_command None = form
+    by_command (Some c) = command w c out
 
     by_fit : (b : Bool) → P (number_of (cond b (performed w (decoded t v).asked (drop (decoded t v).text v) out) (result (plain (Refused 16) out) w)).answered.answer)
     by_fit true = by_command (command_of (decoded t v).asked (drop (decoded t v).text v))

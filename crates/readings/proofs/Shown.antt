@@ -2,7 +2,7 @@
 use Rattle.std.specs.Prelude.{◌≡◌, refl, Bool, true, false, cond, List, [], ◌∷◌, ℕ, zero, suc, ◌-◌, ◌≤◌, eqb, leb, length, take, drop}
 use Rattle.std.proofs.Common.{sym, ap, ◌∙◌, subst, arith, length-drop, length-append, eqb-true, leb-true, le-leb}
 use Rattle.std.proofs.lemmas.Bool.{false≢true}
-use Rattle.std.proofs.Math.Option.{some, none-ne-some, some-injective}
+use Rattle.std.specs.Prelude.{Some, none-ne-some, some-injective}
 use Rattle.ground.specs.Search.{by_test}
 use Rattle.ground.specs.Lists.{Below}
 use Rattle.ground.specs.Rows.{digits, digits-length}
@@ -71,8 +71,8 @@ effect_shows u (LIV f b) w out = (refl, λ z n r t. r)
 effect_shows u (EIV b) w out = (refl, λ z n r t. first-of 8 (told (effect u (EIV b) (own u w)) out).block n r)
 effect_shows u (RDK p i f b) w out = (refl, λ z n r t. first-of 8 (told (effect u (RDK p i f b) (own u w)) out).block n r)
 effect_shows u (mode m d) w out =
-    let s = mode_text m side.key.key.0 side.vector.vector.0 d in
-    (refl, λ z n r t. first-of (length s) (onto s out) n (omega (arith, t, mode_text-length m side.key.key.0 side.vector.vector.0 d (good_blocks (length d) (whole_blocks m u d (length out) (shut_for u w) (own u w) (z 12))))))
+    let s = mode_text m side.key.value.0 side.vector.value.0 d in
+    (refl, λ z n r t. first-of (length s) (onto s out) n (omega (arith, t, mode_text-length m side.key.value.0 side.vector.value.0 d (good_blocks (length d) (whole_blocks m u d (length out) (shut_for u w) (own u w) (z 12))))))
   where
     side : Side
     side = mode_side m (own u w).seat.holdings
@@ -116,7 +116,7 @@ all_three true true false rest h = absurd (false≢true h)
 all_three true true true rest h = (refl, refl, refl, h)
 
 -- so of the row of one tag
-fitted : (t n : ℕ) (ks : List ℕ) (c : Command) (l : List Form) (m : List Row) → fitting n l m ≡ true → arguments_in t l ≡ some ks → beside t m ≡ some c
+fitted : (t n : ℕ) (ks : List ℕ) (c : Command) (l : List Form) (m : List Row) → fitting n l m ≡ true → arguments_in t l ≡ Some ks → beside t m ≡ Some c
     → (returned c ≤ length (spelled ks (blank 0) [])) × (written c ≤ n)
 fitted t n ks c [] m h a b = absurd (none-ne-some ks a)
 fitted t n ks c (x ∷ l) [] h a b = absurd (none-ne-some c b)

@@ -2,7 +2,7 @@
 use Rattle.std.specs.Prelude.{◌≡◌, refl, ◌↔◌, ℕ, eqb}
 use Rattle.std.proofs.Common.{sym, ◌∙◌}
 use Rattle.std.proofs.Math.Path.{ap}
-use Rattle.std.proofs.Math.Option.{Option, some, none-ne-some}
+use Rattle.std.specs.Prelude.{Option, Some, none-ne-some}
 use mathlib.Core.List.{List, [], ◌∷◌, map, nil≢cons, head-eq_of_cons-eq, tail-eq_of_cons-eq}
 use Rattle.ground.specs.Search.{by_test}
 use Rattle.ground.specs.Lists.{Below}
@@ -11,10 +11,9 @@ use Rattle.stream.specs.Fields.{Bytes}
 use Rattle.stream.specs.Commands.{Row as Form, commands, arguments_in, arguments_of}
 use Rattle.stream.specs.Grammar.{Spells}
 use Rattle.stream.proofs.Exact.{spells_fits, misfit}
-use Rattle.rules.specs.declared.Answer.TheVariants.{Refused}
 use Rattle.rules.specs.World.{World}
 use Rattle.rules.specs.Commands.{Command}
-use Rattle.rules.specs.Step.{Result, result, plain, number_of, step}
+use Rattle.rules.specs.Step.{Refused, Result, result, plain, number_of, step}
 use Rattle.facility.specs.Requests.{Row, rows, beside, command_of, carried_out, performed}
 use Rattle.properties.proofs.Performed.{only_then}
 use Rattle.session.specs.Run.{answer_to}
@@ -28,7 +27,7 @@ same_tags q d = refl
 
 -- so a tag has arguments exactly if it has a command
 both : (t : ℕ) (l : List Form) (m : List Row) → map (λ (r : Form). r.tag) l ≡ map (λ (r : Row). r.tag) m
-    → ((ks : List ℕ) × (arguments_in t l ≡ some ks)) ↔ ((c : Command) × (beside t m ≡ some c))
+    → ((ks : List ℕ) × (arguments_in t l ≡ Some ks)) ↔ ((c : Command) × (beside t m ≡ Some c))
 both t [] [] e = (λ p. absurd (none-ne-some p.0 p.1), λ p. absurd (none-ne-some p.0 p.1))
 both t [] (y ∷ m) e = absurd (nil≢cons e)
 both t (x ∷ l) [] e = absurd (nil≢cons (sym e))
@@ -40,7 +39,7 @@ both t (x ∷ l) (y ∷ m) e =
     (λ h. rw (tags, h) rest)
 
 pub known_exactly : (q : Request) (d : Bytes)
-    → ((ks : List ℕ) × (arguments_of q.tag ≡ some ks)) ↔ ((c : Command) × (command_of q d ≡ some c))
+    → ((ks : List ℕ) × (arguments_of q.tag ≡ Some ks)) ↔ ((c : Command) × (command_of q d ≡ Some c))
 unfolding arguments_of
 known_exactly q d = both q.tag commands (rows q d) (same_tags q d)
 
@@ -53,7 +52,7 @@ module _ (w : World) (t : ℕ) (v out : Bytes) where
   spelled-performed a d h = let f = spells_fits t v a d h in rw (f.0, f.1, f.2)
 
   -- and that is a command's step
-  pub spelled_step : (a : Request) (d : Bytes) → Spells t v a d → (c : Command) × (command_of a d ≡ some c) × (answer_to w t v out ≡ step w c out)
+  pub spelled_step : (a : Request) (d : Bytes) → Spells t v a d → (c : Command) × (command_of a d ≡ Some c) × (answer_to w t v out ≡ step w c out)
   unfolding performed
   spelled_step a d h =
       let c = (known_exactly a d).0 (h.arguments, ap arguments_of h.tagged ∙ h.known) in
