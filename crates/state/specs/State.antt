@@ -94,7 +94,9 @@ with_places f ps = record { current_keys = f.current_keys; old_keys = f.old_keys
 -- past an array's end, as Rattle reads it: zeros, false, and no elements
 abbrev pub spare : Place
 spare =
-    let s : Side = record { key = record { present = false; value = record { 0 = [] } }; vector = record { present = false; value = record { 0 = [] } } } in
+    let k : Held DataKey = record { present = false; value = record { 0 = [] } } in
+    let v : Held Vector = record { present = false; value = record { 0 = [] } } in
+    let s : Side = record { key = k; vector = v } in
     record { taken = false; user = 0; holdings = record { transmit = s; receive = s } }
 
 -- ---- the interchanges: their names are 1 to 15

@@ -9,7 +9,7 @@ use Rattle.keys.specs.Keys.{notarized}
 use Rattle.state.specs.State.{Bytes}
 use Rattle.table.specs.Entries.{id_of}
 use Rattle.table.specs.Passwords.{big, same, sealed, authentic, moved_entry, moved_in}
-use Rattle.table.proofs.Located.{take_take, id_first, kept_first}
+use Rattle.table.proofs.Positions.{take_take, id_first, kept_first}
 
 -- ---- two runs of bytes
 
@@ -24,7 +24,8 @@ same_is (x ∷ a) (y ∷ b) = rw (same_is a b) (chosen (eqb x y))
     chosen true = refl
     chosen false = refl
 
-pub authentic_is : (k : Bytes) (u : ℕ) (password : Bytes) (o : Option Bytes) → option_eq (pointwise eqb) o (Some (sealed k u password)) ≡ authentic k u password o
+pub authentic_is : (k : Bytes) (u : ℕ) (password : Bytes) (o : Option Bytes)
+    → option_eq (pointwise eqb) o (Some (sealed k u password)) ≡ authentic k u password o
 unfolding authentic
 authentic_is k u password None = refl
 authentic_is k u password (Some b) = same_is b (sealed k u password)
@@ -66,8 +67,10 @@ unfolding moved_entry
 moved_twelve a c s h = length-append (take 4 s) _ ∙ ap₂ (λ (x y : ℕ). x + y) (length-take-le 4 s (omega arith)) (moved_eight (big (id_of s)) s c _ (id_of s) h)
 
 module _ (a c t : Bytes) (n k : ℕ) (h : k < n) (l : k * 12 + 12 ≤ length t) where
-  pub move_step : (t' e : Bytes) → length e ≡ 12 → e ≡ moved_entry a c (take 12 (drop (k * 12) t)) → t' ≡ take (k * 12) t ++ (e ++ drop (k * 12 + length e) t)
-      → take ((k + 1) * 12) t' ++ moved_in (n - (k + 1)) a c (drop ((k + 1) * 12) t') ≡ take (k * 12) t ++ moved_in (n - k) a c (drop (k * 12) t)
+  pub move_step : (t' e : Bytes) → length e ≡ 12 → e ≡ moved_entry a c (take 12 (drop (k * 12) t))
+      → t' ≡ take (k * 12) t ++ (e ++ drop (k * 12 + length e) t)
+      → take ((k + 1) * 12) t' ++ moved_in (n - (k + 1)) a c (drop ((k + 1) * 12) t')
+      ≡ take (k * 12) t ++ moved_in (n - k) a c (drop (k * 12) t)
   unfolding moved_in
   move_step t' e w i j =
       let f : e ≡ moved_entry a c (drop (k * 12) t) = i ∙ moved_first a c (drop (k * 12) t) in

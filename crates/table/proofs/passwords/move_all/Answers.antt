@@ -1,4 +1,4 @@
-use Rattle.std.proofs.Common.{rules, sym, ap, ◌∙◌, ◌≡◌, ◌≤◌, ◌+◌, ◌*◌, length, arith}
+use Rattle.std.proofs.Common.{rules, sym, ap, ◌∙◌, ◌≡◌, ◌≤◌, ◌+◌, ◌*◌, length}
 use Rattle.table.specs.Passwords.{moved, moved_entry}
 use Rattle.table.proofs.Laws.{move_step, move_end}
 use Rattle.table.proofs.passwords.move_all.Goals as goal
