@@ -88,13 +88,24 @@ unfoldable pub shut_to : Option Holdings → List Place → Bool
 shut_to None ps = all_taken ps
 shut_to (Some g) ps = false
 
+-- what a facility holds for a user, as a record: with nothing held where he has no place
+pub record Seat : Type 0 where
+  pub active : Bool
+  pub holdings : Holdings
+
+unfoldable pub seat_of : Option Holdings → Seat
+seat_of None = record { active = false; holdings = bare }
+seat_of (Some h) = record { active = true; holdings = h }
+
 abbrev pub with_places : Facility → List Place → Facility
 with_places f ps = record { current_keys = f.current_keys; old_keys = f.old_keys; due = f.due; places = ps }
 
 -- past an array's end, as Rattle reads it: zeros, false, and no elements
 abbrev pub spare : Place
 spare =
-    let s : Side = record { key = record { present = false; value = record { 0 = [] } }; vector = record { present = false; value = record { 0 = [] } } } in
+    let k : Held DataKey = record { present = false; value = record { 0 = [] } } in
+    let v : Held Vector = record { present = false; value = record { 0 = [] } } in
+    let s : Side = record { key = k; vector = v } in
     record { taken = false; user = 0; holdings = record { transmit = s; receive = s } }
 
 -- ---- the interchanges: their names are 1 to 15

@@ -1,4 +1,4 @@
-// What a facility holds. What a command removes it overwrites with zeros, so that nothing stays behind.
+// What a facility holds. What a command removes it overwrites with zeros: nothing stays behind.
 
 #![tactic(auto)]
 
@@ -10,7 +10,8 @@ pub mod places;
 
 use cipher::keys::{DataKey, InterchangeKey, Vector};
 
-// No Option: bytes may be handed in beside a mark of missing, and they stay until a command overwrites them.
+// No Option: bytes may be handed in beside a mark of missing, and stay until a command overwrites them.
+// `known` is the Option.
 #[derive(Clone, Copy)]
 pub struct Held<T> {
     pub present: bool,
@@ -47,7 +48,7 @@ pub struct Holdings {
     pub receive: Side,
 }
 
-// A free place is no Option either: what a user leaves is overwritten in it.
+// No Option, for the same reason: what a user leaves is overwritten, and not only marked.
 #[derive(Clone, Copy)]
 pub struct Place {
     pub taken: bool,

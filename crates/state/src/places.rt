@@ -91,7 +91,7 @@ pub fn keep(f: Facility, user: u32, holdings: Holdings) -> Facility
     ensures { result ≡ with_places f (give user holdings f.places) }
 {
     let mut places = f.places;
-    if let Some(i) = place_of(places, user).or(free_place(places)) {
+    if let Some(i) = place_of(places, user).or_else(|| free_place(places)) {
         places[i] = place_for(user, holdings);
     }
     Facility { places, ..f }

@@ -9,7 +9,7 @@ use Rattle.keys.specs.Keys.{notarized}
 use Rattle.state.specs.State.{Bytes}
 use Rattle.table.specs.Entries.{id_of}
 use Rattle.table.specs.Passwords.{big, same, sealed, authentic, moved_entry, moved_in}
-use Rattle.table.proofs.Located.{take_take, id_first, kept_first}
+use Rattle.table.proofs.Positions.{take_take, id_first, kept_first}
 
 -- ---- two runs of bytes
 
@@ -24,7 +24,8 @@ same_is (x ∷ a) (y ∷ b) = rw (same_is a b) (chosen (eqb x y))
     chosen true = refl
     chosen false = refl
 
-pub authentic_is : (k : Bytes) (u : ℕ) (password : Bytes) (o : Option Bytes) → option_eq (pointwise eqb) o (Some (sealed k u password)) ≡ authentic k u password o
+pub authentic_is : (k : Bytes) (u : ℕ) (password : Bytes) (o : Option Bytes)
+    → option_eq (pointwise eqb) o (Some (sealed k u password)) ≡ authentic k u password o
 unfolding authentic
 authentic_is k u password None = refl
 authentic_is k u password (Some b) = same_is b (sealed k u password)
@@ -66,19 +67,16 @@ unfolding moved_entry
 moved_twelve a c s h = length-append (take 4 s) _ ∙ ap₂ (λ (x y : ℕ). x + y) (length-take-le 4 s (omega arith)) (moved_eight (big (id_of s)) s c _ (id_of s) h)
 
 module _ (a c t : Bytes) (n k : ℕ) (h : k < n) (l : k * 12 + 12 ≤ length t) where
-  pub move_step : (t' e : Bytes) → length e ≡ 12 → e ≡ moved_entry a c (take 12 (drop (k * 12) t)) → t' ≡ take (k * 12) t ++ (e ++ drop (k * 12 + length e) t)
+  pub move_step : (t' : Bytes) → t' ≡ take (k * 12) t ++ (moved_entry a c (drop (k * 12) t) ++ drop (k * 12 + 12) t)
       → take ((k + 1) * 12) t' ++ moved_in (n - (k + 1)) a c (drop ((k + 1) * 12) t') ≡ take (k * 12) t ++ moved_in (n - k) a c (drop (k * 12) t)
   unfolding moved_in
-  move_step t' e w i j =
-      let f : e ≡ moved_entry a c (drop (k * 12) t) = i ∙ moved_first a c (drop (k * 12) t) in
-      let q : length (moved_entry a c (drop (k * 12) t)) ≡ 12 = ap length (sym f) ∙ w in
-      let d : t' ≡ take (k * 12) t ++ (moved_entry a c (drop (k * 12) t) ++ drop (k * 12 + 12) t) =
-      j ∙ ap₂ (λ (x : Bytes) (y : ℕ). take (k * 12) t ++ (x ++ drop (k * 12 + y) t)) f w in
+  move_step t' e =
       let o : (k + 1) * 12 ≡ k * 12 + 12 = omega arith in
       let m : n - k ≡ suc (n - (k + 1)) = omega arith in
+      let q : length (moved_entry a c (drop (k * 12) t)) ≡ 12 = moved_twelve a c (drop (k * 12) t) (omega (arith, length-drop (k * 12) t)) in
       let p : length (take (k * 12) t ++ moved_entry a c (drop (k * 12) t)) ≡ k * 12 + 12 =
       length-append (take (k * 12) t) (moved_entry a c (drop (k * 12) t)) ∙ ap₂ (λ (x y : ℕ). x + y) (length-take-le (k * 12) t (omega arith)) q in
-      let s : t' ≡ (take (k * 12) t ++ moved_entry a c (drop (k * 12) t)) ++ drop (k * 12 + 12) t = d ∙ sym (append_assoc (take (k * 12) t) (moved_entry a c (drop (k * 12) t)) (drop (k * 12 + 12) t)) in
+      let s : t' ≡ (take (k * 12) t ++ moved_entry a c (drop (k * 12) t)) ++ drop (k * 12 + 12) t = e ∙ sym (append_assoc (take (k * 12) t) (moved_entry a c (drop (k * 12) t)) (drop (k * 12 + 12) t)) in
       ap (λ (i : ℕ). take i t' ++ moved_in (n - (k + 1)) a c (drop i t')) o
       ∙ ap₂ (λ (x y : Bytes). x ++ moved_in (n - (k + 1)) a c y)
       (ap (take (k * 12 + 12)) s ∙ take_at (take (k * 12) t ++ moved_entry a c (drop (k * 12) t)) (drop (k * 12 + 12) t) (k * 12 + 12) p)
@@ -87,6 +85,15 @@ module _ (a c t : Bytes) (n k : ℕ) (h : k < n) (l : k * 12 + 12 ≤ length t) 
       ∙ ap (λ (r : Bytes). take (k * 12) t ++ r)
       (ap (λ (y : Bytes). moved_entry a c (drop (k * 12) t) ++ moved_in (n - (k + 1)) a c y) (sym (drop-drop 12 (k * 12) t))
       ∙ ap (λ (i : ℕ). moved_in i a c (drop (k * 12) t)) (sym m))
+
+  -- the same, where the entry was moved apart and then stored
+  pub move_stored : (t' e : Bytes) → length e ≡ 12 → e ≡ moved_entry a c (take 12 (drop (k * 12) t))
+      → t' ≡ take (k * 12) t ++ (e ++ drop (k * 12 + length e) t)
+      → take ((k + 1) * 12) t' ++ moved_in (n - (k + 1)) a c (drop ((k + 1) * 12) t')
+      ≡ take (k * 12) t ++ moved_in (n - k) a c (drop (k * 12) t)
+  move_stored t' e w i j =
+      move_step t'
+      (j ∙ ap₂ (λ (x : Bytes) (y : ℕ). take (k * 12) t ++ (x ++ drop (k * 12 + y) t)) (i ∙ moved_first a c (drop (k * 12) t)) w)
 
 pub move_end : (a c t : Bytes) (n k : ℕ) → n ≤ k → take (k * 12) t ++ moved_in (n - k) a c (drop (k * 12) t) ≡ t
 unfolding moved_in

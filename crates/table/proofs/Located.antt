@@ -1,135 +1,154 @@
--- From the number k of an entry that a search finds to `entry_in`, `enter_in` and `enrol_in`, the definition's words.
-use Rattle.std.specs.Prelude.{◌≡◌, refl, Bool, true, false, cond, Option, None, Some, option_map, List, [], ◌∷◌, ◌++◌, ℕ, zero, suc, ◌+◌, ◌*◌, ◌/◌, ◌≤◌, ◌<◌, eqb, length, position, take, drop, get_or}
+-- Theorems of the number of an entry that a search of the table tells, and of finding none, in the definition's words.
+use Rattle.std.specs.Prelude.{◌≡◌, refl, true, false, Option, None, Some, [], ◌∷◌, ◌++◌, ℕ, zero, suc, ◌+◌, ◌*◌, ◌-◌, ◌/◌, ◌≤◌, ◌<◌, eqb, length, take, drop, get_or, position, ◌≢◌}
 use Rattle.std.specs.Simd.{first_chunks}
-use Rattle.std.specs.Int.{from_be_bytes}
-use Rattle.std.proofs.Common.{sym, ap, ap₂, ◌∙◌, append_assoc, not-suc-le-zero, arith, take-append-drop, take-add, drop-drop, lit≤, w32, append-nil, length-append, length-drop, take_at, drop_of_length-le}
-use Rattle.std.proofs.lemmas.List.{drop-take}
+use Rattle.std.proofs.Common.{sym, ap, ap₂, ◌∙◌, append_assoc, append-nil, not-suc-le-zero, arith, length-append, add-one, eqb-true, ne_eqb, take-add, drop-drop, drop-cons, take_at, drop_at, length-take-le}
+use Rattle.std.proofs.Math.Numerals.{add-two, add-three, add-four, add_five, add_six, add_seven}
+use Rattle.std.proofs.Math.Seq.{take-length, drop-length}
+use Rattle.std.proofs.lemmas.Bool.{eqb-false}
+use borrow.Rule.Slice.PartMut.{mid_of, put_mid, mid_len, Post-is}
+use Rattle.ground.specs.Rows.{row, digits, digits-length}
+use Rattle.ground.specs.Search.{by_test}
 use Rattle.state.specs.State.{Bytes}
-use Rattle.state.proofs.Located.{position_cons}
-use Rattle.ground.specs.Rows.{row, digits}
-use Rattle.table.specs.Entries.{free_id, id_of, entries, is_of, entry_in, enter_in, entry_of, enter, enrol_in}
+use Rattle.state.proofs.Positions.{position_cons}
+use Rattle.table.specs.Entries.{free_id, id_of, id_at, is_of, entry_in, enter_in, entry_of, enter, enrol_in}
+use Rattle.table.specs.Located.{NotBefore, Entered}
+use Rattle.table.proofs.Positions.{shift0, id_first, kept_first, found, found_in, changed, kept, entered_in, taken, taken_in}
 
--- ---- the entries
-
-shift0 : (k : ℕ) (t : Bytes) → drop (suc k * 12) t ≡ drop (k * 12) (drop 12 t)
-shift0 k t = let e : suc k * 12 ≡ 12 + k * 12 = omega arith in rw e (sym (drop-drop (k * 12) 12 t))
-
-chunk_at : (n k : ℕ) (t d : Bytes) → k < n → get_or (first_chunks 12 n t) k d ≡ take 12 (drop (k * 12) t)
-chunk_at zero k t d h = absurd (not-suc-le-zero h)
-chunk_at (suc n) zero t d h = refl
-chunk_at (suc n) (suc k) t d h = chunk_at n k (drop 12 t) d (omega arith) ∙ ap (take 12) (sym (shift0 k t))
-
-pub entry_is_at : (t : Bytes) (k : ℕ) (d : Bytes) → k * 12 + 12 ≤ length t → get_or (entries t) k d ≡ take 12 (drop (k * 12) t)
-entry_is_at t k d h = chunk_at (length t / 12) k t d (omega arith)
-
--- ---- the first bytes of an entry are those of the table from there on
-
-pub take_take : (n m : ℕ) (t : Bytes) → n ≤ m → take n (take m t) ≡ take n t
-take_take zero m t h = refl
-take_take (suc n) zero t h = absurd (not-suc-le-zero h)
-take_take (suc n) (suc m) [] h = refl
-take_take (suc n) (suc m) (x ∷ t) h = ap (λ (r : Bytes). x ∷ r) (take_take n m t (omega arith))
-
-pub id_first : (t : Bytes) → id_of (take 12 t) ≡ id_of t
-unfolding id_of
-id_first t = rw (take_take 4 12 t (lit≤ tt))
-
-pub kept_first : (t : Bytes) → take 8 (drop 4 (take 12 t)) ≡ take 8 (drop 4 t)
-kept_first t = rw (drop-take 4 8 t) (take_take 8 8 (drop 4 t) (lit≤ tt))
-
--- an identifier is read from four bytes, the high one first
-pub id_is : (e : Bytes) → 4 ≤ length e → from_be_bytes w32 (get_or e 0 0 ∷ get_or e 1 0 ∷ get_or e 2 0 ∷ get_or e 3 0 ∷ []) ≡ id_of e
+-- the four bytes of an identifier
+pub id_bytes : (t : Bytes) (i : ℕ) → i + 12 ≤ length t
+    → id_of (drop i t) ≡ get_or t i 0 * 16777216 + get_or t (i + 1) 0 * 65536 + get_or t (i + 2) 0 * 256 + get_or t (i + 3) 0
 unfolding id_of row
-id_is (a ∷ b ∷ c ∷ d ∷ e) h = omega arith
-id_is [] h = absurd (omega arith)
-id_is (a ∷ []) h = absurd (omega arith)
-id_is (a ∷ b ∷ []) h = absurd (omega arith)
-id_is (a ∷ b ∷ c ∷ []) h = absurd (omega arith)
+id_bytes t i l =
+    rw (drop-cons t i 0 (omega arith), drop-cons t (suc i) 0 (omega arith), drop-cons t (suc (suc i)) 0 (omega arith), drop-cons t (suc (suc (suc i))) 0 (omega arith), add-one i, add-two i, add-three i)
+    (omega arith)
 
--- ---- what a search says
+-- one more entry is passed
+pub more : (u : ℕ) (t : Bytes) (k : ℕ) → NotBefore u t k → (id_at t k ≡ u → ⊥) → NotBefore u t (k + 1)
+more u t k b n j h =
+    by_test (eqb j k)
+    (λ e. rw (eqb-true j k e) (ne_eqb u (id_at t k) (λ q. n (sym q))))
+    (λ e. let d : j ≢ k = eqb-false j k e in b j (omega arith))
 
--- what the entry keeps that a search found
-abbrev found : Bytes → Option ℕ → Option Bytes
-found t o = option_map (λ k. take 8 (drop 4 (take 12 (drop (k * 12) t)))) o
+later : (u : ℕ) (t : Bytes) (k : ℕ) → NotBefore u t (suc k) → NotBefore u (drop 12 t) k
+later u t k b j h = rw (shift0 j t) at (b (suc j) (omega arith))
 
-found_cons : (b : Bool) (t : Bytes) (o : Option ℕ) → cond b (Some (take 8 (drop 4 t))) (found (drop 12 t) o) ≡ found t (cond b (Some 0) (option_map suc o))
-found_cons true t o = ap Some (sym (kept_first t))
-found_cons false t None = refl
-found_cons false t (Some k) = ap (λ (s : Bytes). Some (take 8 (drop 4 (take 12 s)))) (sym (shift0 k t))
+-- the number that `position` finds
+position_at : (n u : ℕ) (t : Bytes) (k : ℕ) → k < n → NotBefore u t k → eqb u (id_at t k) ≡ true
+    → position (is_of u) (first_chunks 12 n t) ≡ Some k
+position_at zero u t k h b e = absurd (not-suc-le-zero h)
+position_at (suc n) u t zero h b e = rw (position_cons (is_of u) (take 12 t) (first_chunks 12 n (drop 12 t)), id_first t, e)
+position_at (suc n) u t (suc k) h b e =
+    let z : eqb u (id_of t) ≡ false = b 0 (omega arith) in
+    let i = position_at n u (drop 12 t) k (omega arith) (later u t k b) (rw (shift0 k t) at e) in
+    rw (position_cons (is_of u) (take 12 t) (first_chunks 12 n (drop 12 t)), id_first t, z, i)
 
-found_in : (n u : ℕ) (t : Bytes) → entry_in n u t ≡ found t (position (is_of u) (first_chunks 12 n t))
-unfolding entry_in
-found_in zero u t = refl
-found_in (suc n) u t =
-    rw (position_cons (is_of u) (take 12 t) (first_chunks 12 n (drop 12 t)), id_first t, found_in n u (drop 12 t))
-    (found_cons (eqb u (id_of t)) t (position (is_of u) (first_chunks 12 n (drop 12 t))))
+position_nowhere : (n u : ℕ) (t : Bytes) → NotBefore u t n → position (is_of u) (first_chunks 12 n t) ≡ None
+position_nowhere zero u t b = refl
+position_nowhere (suc n) u t b =
+    let z : eqb u (id_of t) ≡ false = b 0 (omega arith) in
+    let i = position_nowhere n u (drop 12 t) (later u t n b) in
+    rw (position_cons (is_of u) (take 12 t) (first_chunks 12 n (drop 12 t)), id_first t, z, i)
 
-pub entry_is : (u : ℕ) (t : Bytes) → entry_of u t ≡ option_map (λ k. take 8 (drop 4 (take 12 (drop (k * 12) t)))) (position (is_of u) (entries t))
+pub entry_at : (n u : ℕ) (t : Bytes) (k : ℕ) → k < n → NotBefore u t k → eqb u (id_at t k) ≡ true
+    → entry_in n u t ≡ Some (take 8 (drop (k * 12 + 4) t))
+entry_at n u t k h b e =
+    found_in n u t
+    ∙ ap (found t) (position_at n u t k h b e)
+    ∙ ap Some (kept_first (drop (k * 12) t) ∙ ap (take 8) (drop-drop 4 (k * 12) t))
+
+pub entry_nowhere : (n u : ℕ) (t : Bytes) → NotBefore u t n → entry_in n u t ≡ None
+entry_nowhere n u t b = found_in n u t ∙ ap (found t) (position_nowhere n u t b)
+
+pub enter_at : (n u : ℕ) (b t : Bytes) (k : ℕ) → k < n → NotBefore u t k → eqb u (id_at t k) ≡ true
+    → enter_in n u b t ≡ take (k * 12 + 4) t ++ (b ++ drop (k * 12 + 12) t)
+enter_at n u b t k h nb e =
+    entered_in n u b t
+    ∙ ap (changed (kept b) t) (position_at n u t k h nb e)
+    ∙ rw (take-add (k * 12) 4 t, append_assoc (take (k * 12) t) (take 4 (drop (k * 12) t)), drop-drop)
+
+-- eight bytes from o on
+pub eight_bytes : (t : Bytes) (o : ℕ) → o + 8 ≤ length t
+    → get_or t o 0 ∷ get_or t (o + 1) 0 ∷ get_or t (o + 2) 0 ∷ get_or t (o + 3) 0 ∷ get_or t (o + 4) 0 ∷ get_or t (o + 5) 0 ∷ get_or t (o + 6) 0 ∷ get_or t (o + 7) 0 ∷ []
+    ≡ take 8 (drop o t)
+eight_bytes t o l =
+    rw (drop-cons t o 0 (omega arith), drop-cons t (suc o) 0 (omega arith), drop-cons t (suc (suc o)) 0 (omega arith), drop-cons t (suc (suc (suc o))) 0 (omega arith), drop-cons t (suc (suc (suc (suc o)))) 0 (omega arith), drop-cons t (suc (suc (suc (suc (suc o))))) 0 (omega arith), drop-cons t (suc (suc (suc (suc (suc (suc o)))))) 0 (omega arith), drop-cons t (suc (suc (suc (suc (suc (suc (suc o))))))) 0 (omega arith), add-one o, add-two o, add-three o, add-four o, add_five o, add_six o, add_seven o)
+
+-- ---- what a search found, in the definition's words
+
+pub entry_inside : (u : ℕ) (t : Bytes) (r : Option ℕ) (k : ℕ) → Entered u t r → r ≡ Some k → k * 12 + 12 ≤ length t
+entry_inside u t r k p e = let q : Entered u t (Some k) = rw e at p in omega (arith, q.0)
+
+pub entry_found : (u : ℕ) (t : Bytes) (r : Option ℕ) (k : ℕ) → Entered u t r → r ≡ Some k → entry_of u t ≡ Some (take 8 (drop (k * 12 + 4) t))
 unfolding entry_of
-entry_is u t = found_in (length t / 12) u t
+entry_found u t r k p e = let q : Entered u t (Some k) = rw e at p in entry_at (length t / 12) u t k q.0 q.2 q.1
 
--- the table with the entry changed that a search found: f makes its bytes, and those behind it, anew
-abbrev changed : (Bytes → Bytes) → Bytes → Option ℕ → Bytes
-changed f t None = t
-changed f t (Some k) = take (k * 12) t ++ f (drop (k * 12) t)
+pub entry_missing : (u : ℕ) (t : Bytes) (r : Option ℕ) → Entered u t r → r ≡ None → entry_of u t ≡ None
+unfolding entry_of
+entry_missing u t r p e = let q : Entered u t None = rw e at p in entry_nowhere (length t / 12) u t q
 
-changed_cons : (f : Bytes → Bytes) (b : Bool) (t : Bytes) (o : Option ℕ)
-    → cond b (f t) (take 12 t ++ changed f (drop 12 t) o) ≡ changed f t (cond b (Some 0) (option_map suc o))
-changed_cons f true t o = refl
-changed_cons f false t None = take-append-drop 12 t
-changed_cons f false t (Some k) =
-    let d : suc k * 12 ≡ 12 + k * 12 = omega arith in
-    rw (shift0 k t, d, take-add 12 (k * 12) t, append_assoc (take 12 t) (take (k * 12) (drop 12 t)) (f (drop (k * 12) (drop 12 t))))
+pub enter_found : (u : ℕ) (b t : Bytes) (r : Option ℕ) (k : ℕ) → Entered u t r → r ≡ Some k → enter u b t ≡ take (k * 12 + 4) t ++ (b ++ drop (k * 12 + 4 + 8) t)
+unfolding enter
+enter_found u b t r k p e =
+    let q : Entered u t (Some k) = rw e at p in
+    let s : k * 12 + 4 + 8 ≡ k * 12 + 12 = omega arith in
+    rw s (enter_at (length t / 12) u b t k q.0 q.2 q.1)
 
--- the user's entry with the eight bytes b
-abbrev kept : Bytes → Bytes → Bytes
-kept b t = take 4 t ++ (b ++ drop 12 t)
+enter_nowhere : (n u : ℕ) (b t : Bytes) → NotBefore u t n → enter_in n u b t ≡ t
+enter_nowhere n u b t h = entered_in n u b t ∙ ap (changed (kept b) t) (position_nowhere n u t h)
 
-entered_in : (n u : ℕ) (b t : Bytes) → enter_in n u b t ≡ changed (kept b) t (position (is_of u) (first_chunks 12 n t))
-unfolding enter_in
-entered_in zero u b t = refl
-entered_in (suc n) u b t =
-    rw (position_cons (is_of u) (take 12 t) (first_chunks 12 n (drop 12 t)), id_first t, entered_in n u b (drop 12 t))
-    (changed_cons (kept b) (eqb u (id_of t)) t (position (is_of u) (first_chunks 12 n (drop 12 t))))
+pub enter_missing : (u : ℕ) (b t : Bytes) (r : Option ℕ) → Entered u t r → r ≡ None → enter u b t ≡ t
+unfolding enter
+enter_missing u b t r p e = let q : Entered u t None = rw e at p in enter_nowhere (length t / 12) u b t q
 
--- a free entry that becomes u's
-abbrev taken : ℕ → Bytes → Bytes → Bytes
-taken u b t = digits 256 4 u ++ (b ++ drop 12 t)
+-- a part copied to o, as the copy tells it
+pub put-part : (t b ys : Bytes) (o : ℕ) → o + length b ≤ length t → ys ≡ take (length b) b ++ drop (length b) (mid_of o (o + length b - o) t)
+    → put_mid o (o + length b - o) t ys ≡ take o t ++ (b ++ drop (o + length b) t)
+put-part t b ys o l h =
+    rw (Post-is o (o + length b) t (omega arith), h, take-length b, rest, append-nil b)
+  where
+    m : length b ≡ length (mid_of o (o + length b - o) t)
+    m = omega (arith, mid_len o (o + length b) t l)
 
-taken_in : (n u : ℕ) (b t : Bytes) → enrol_in n u b t ≡ changed (taken u b) t (position (is_of free_id) (first_chunks 12 n t))
-unfolding enrol_in
-taken_in zero u b t = refl
-taken_in (suc n) u b t =
-    rw (position_cons (is_of free_id) (take 12 t) (first_chunks 12 n (drop 12 t)), id_first t, taken_in n u b (drop 12 t))
-    (changed_cons (taken u b) (eqb free_id (id_of t)) t (position (is_of free_id) (first_chunks 12 n (drop 12 t))))
+    rest : drop (length b) (mid_of o (o + length b - o) t) ≡ []
+    rest = ap (λ (n : ℕ). drop n (mid_of o (o + length b - o) t)) m ∙ drop-length (mid_of o (o + length b - o) t)
 
-module _ (u : ℕ) (b t : Bytes) (o : Option ℕ) (e : o ≡ position (is_of u) (entries t)) where
-  pub enter_missing : o ≡ None → t ≡ enter u b t
-  unfolding enter
-  enter_missing n = rw (entered_in (length t / 12) u b t, ← e, n)
+-- ---- the first free entry taken
 
-  pub enter_found : (k : ℕ) → o ≡ Some k → (t' : Bytes) → length b ≡ 8
-      → t' ≡ take (k * 12 + 4) t ++ (b ++ drop (k * 12 + 4 + length b) t) → t' ≡ enter u b t
-  unfolding enter
-  enter_found k s t' l h =
-      let m : k * 12 + 4 + length b ≡ k * 12 + 12 = omega arith in
-      rw (entered_in (length t / 12) u b t, ← e, s, h, m, take-add (k * 12) 4 t, append_assoc (take (k * 12) t) (take 4 (drop (k * 12) t)) (b ++ drop (k * 12 + 12) t), drop-drop 12 (k * 12) t)
+pub enrol_at : (n u : ℕ) (b t : Bytes) (k : ℕ) → k < n → NotBefore free_id t k → eqb free_id (id_at t k) ≡ true
+    → enrol_in n u b t ≡ take (k * 12) t ++ (digits 256 4 u ++ (b ++ drop (k * 12 + 12) t))
+enrol_at n u b t k h nb e = taken_in n u b t ∙ ap (changed (taken u b) t) (position_at n free_id t k h nb e) ∙ rw drop-drop
 
-module _ (u : ℕ) (b t : Bytes) (o : Option ℕ) (e : o ≡ position (is_of free_id) (entries t)) where
-  pub enrol_missing : o ≡ None → t ≡ enrol_in (length t / 12) u b t
-  enrol_missing n = rw (taken_in (length t / 12) u b t, ← e, n)
+enrol_nowhere : (n u : ℕ) (b t : Bytes) → NotBefore free_id t n → enrol_in n u b t ≡ t
+enrol_nowhere n u b t h = taken_in n u b t ∙ ap (changed (taken u b) t) (position_nowhere n free_id t h)
 
-  pub enrol_found : (k : ℕ) → o ≡ Some k → (t' c : Bytes) → length c ≡ 12 → c ≡ digits 256 4 u ++ b
-      → t' ≡ take (k * 12) t ++ (c ++ drop (k * 12 + length c) t) → t' ≡ enrol_in (length t / 12) u b t
-  enrol_found k s t' c l d h =
-      rw (taken_in (length t / 12) u b t, ← e, s, h, l, d, append_assoc (digits 256 4 u) b (drop (k * 12 + 12) t), drop-drop 12 (k * 12) t)
+pub enrol_missing : (u : ℕ) (b t : Bytes) (r : Option ℕ) → Entered free_id t r → r ≡ None → enrol_in (length t / 12) u b t ≡ t
+enrol_missing u b t r p e = let q : Entered free_id t None = rw e at p in enrol_nowhere (length t / 12) u b t q
 
--- ---- an entry made of its two parts
+-- four bytes at o, and then eight behind them
+two_parts : (t a b : Bytes) (o : ℕ) → o + 12 ≤ length t → length a ≡ 4
+    → take (o + 4) (take o t ++ (a ++ drop (o + 4) t)) ++ (b ++ drop (o + 4 + 8) (take o t ++ (a ++ drop (o + 4) t)))
+    ≡ take o t ++ (a ++ (b ++ drop (o + 12) t))
+two_parts t a b o l e =
+    let h : length (take o t ++ a) ≡ o + 4 = length-append (take o t) a ∙ ap₂ (λ (m n : ℕ). m + n) (length-take-le o t (omega arith)) e in
+    let s : take o t ++ (a ++ drop (o + 4) t) ≡ (take o t ++ a) ++ drop (o + 4) t = sym (append_assoc (take o t) a (drop (o + 4) t)) in
+    let p : take (o + 4) (take o t ++ (a ++ drop (o + 4) t)) ≡ take o t ++ a = ap (take (o + 4)) s ∙ take_at (take o t ++ a) (drop (o + 4) t) (o + 4) h in
+    let d : drop (o + 4) (take o t ++ (a ++ drop (o + 4) t)) ≡ drop (o + 4) t = ap (drop (o + 4)) s ∙ drop_at (take o t ++ a) (drop (o + 4) t) (o + 4) h in
+    let n : o + 4 + 8 ≡ o + 12 = omega arith in
+    let q : drop (o + 4 + 8) (take o t ++ (a ++ drop (o + 4) t)) ≡ drop (o + 12) t =
+    sym (drop-drop 8 (o + 4) (take o t ++ (a ++ drop (o + 4) t))) ∙ ap (drop 8) d ∙ drop-drop 8 (o + 4) t ∙ ap (λ (m : ℕ). drop m t) n in
+    ap₂ (λ (x y : Bytes). x ++ (b ++ y)) p q ∙ append_assoc (take o t) a (b ++ drop (o + 12) t)
 
-pub entry_made : (z id b e₁ e₂ : Bytes) → length z ≡ 12 → length id ≡ 4 → length b ≡ 8
-    → e₁ ≡ id ++ drop (0 + length id) z → e₂ ≡ take 4 e₁ ++ (b ++ drop (4 + length b) e₁) → e₂ ≡ id ++ b
-entry_made z id b e₁ e₂ l m n f g =
-    let w : length e₁ ≡ 12 = ap length f ∙ length-append id _ ∙ omega (arith, length-drop (0 + length id) z) in
-    let s : take 4 e₁ ≡ id = ap (take 4) f ∙ take_at id (drop (0 + length id) z) 4 m in
-    let r : drop (4 + length b) e₁ ≡ [] = drop_of_length-le e₁ (omega arith) in
-    g ∙ rw (s, r, append-nil)
+-- the two stores that take a free entry
+pub enrol_found : (u : ℕ) (b t t₁ t₂ : Bytes) (r : Option ℕ) (k : ℕ) → Entered free_id t r → r ≡ Some k → length b ≡ 8
+    → t₁ ≡ take (k * 12) t ++ (digits 256 4 u ++ drop (k * 12 + length (digits 256 4 u)) t)
+    → t₂ ≡ take (k * 12 + 4) t₁ ++ (b ++ drop (k * 12 + 4 + length b) t₁)
+    → t₂ ≡ enrol_in (length t / 12) u b t
+enrol_found u b t t₁ t₂ r k p e l e₁ e₂ =
+    let q : Entered free_id t (Some k) = rw e at p in
+    let four : length (digits 256 4 u) ≡ 4 = digits-length 256 4 u in
+    let f₁ : t₁ ≡ take (k * 12) t ++ (digits 256 4 u ++ drop (k * 12 + 4) t) = e₁ ∙ ap (λ (n : ℕ). take (k * 12) t ++ (digits 256 4 u ++ drop (k * 12 + n) t)) four in
+    e₂
+    ∙ ap (λ (n : ℕ). take (k * 12 + 4) t₁ ++ (b ++ drop (k * 12 + 4 + n) t₁)) l
+    ∙ ap (λ (x : Bytes). take (k * 12 + 4) x ++ (b ++ drop (k * 12 + 4 + 8) x)) f₁
+    ∙ two_parts t (digits 256 4 u) b (k * 12) (omega (arith, q.0)) four
+    ∙ sym (enrol_at (length t / 12) u b t k q.0 q.2 q.1)

@@ -4,7 +4,7 @@ ghost use Rattle.ground.specs.Rows.{digits};
 ghost use Rattle.table.specs.Entries.{fits, id_of, entries, is_of, entry_of, enter, enrol_in, enrolled};
 
 // Four bytes FF mark a free entry.
-pub const FREE: u32 = 4294967295;
+pub const FREE: u32 = 0xFFFF_FFFF;
 
 pub fn is_fit(length: usize) -> bool
     ensures { result ≡ fits length }

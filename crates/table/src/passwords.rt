@@ -42,7 +42,8 @@ fn moved_entry(entry: [u8; 12], old: InterchangeKey, current: InterchangeKey) ->
     moved
 }
 
-// Every entry from the old key to the current one.
+// Every entry from the old key to the current one: by number, since of what `chunks_exact_mut`
+// leaves in a slice a proof knows the length alone.
 pub fn move_all(t: &mut [u8], old: InterchangeKey, current: InterchangeKey)
     ensures { t.new ≡ moved old.0 current.0 t.old }
 {

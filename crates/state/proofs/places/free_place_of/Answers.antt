@@ -1,5 +1,5 @@
 use Rattle.std.proofs.Common.{rules}
-use Rattle.state.proofs.Located.{leave_is}
+use Rattle.state.proofs.Positions.{leave_is}
 use Rattle.state.proofs.places.free_place_of.Goals as goal
 
 pub returns : goal.returns

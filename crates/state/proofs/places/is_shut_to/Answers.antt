@@ -1,6 +1,6 @@
 use Rattle.std.proofs.Common.{rules}
 use Rattle.state.specs.State.{shut_to}
-use Rattle.state.proofs.Located.{same_none, all_taken_is}
+use Rattle.state.proofs.Positions.{same_none, all_taken_is}
 use Rattle.state.proofs.places.is_shut_to.Goals as goal
 
 pub returns-then-is_none : goal.returns-then-is_none

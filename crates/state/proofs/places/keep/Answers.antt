@@ -1,5 +1,5 @@
 use Rattle.std.proofs.Common.{rules}
-use Rattle.state.proofs.Located.{give_is}
+use Rattle.state.proofs.Positions.{give_is}
 use Rattle.state.proofs.places.keep.Goals as goal
 
 pub returns : goal.returns

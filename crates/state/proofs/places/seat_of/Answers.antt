@@ -1,5 +1,5 @@
 use Rattle.std.proofs.Common.{rules}
-use Rattle.state.proofs.Located.{find_is}
+use Rattle.state.proofs.Positions.{find_is}
 use Rattle.state.proofs.places.seat_of.Goals as goal
 
 pub returns-in_err-i : goal.returns-in_err-i

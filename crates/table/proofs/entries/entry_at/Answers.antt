@@ -1,5 +1,5 @@
 use Rattle.std.proofs.Common.{rules, []}
-use Rattle.table.proofs.Located.{entry_is_at}
+use Rattle.table.proofs.Positions.{entry_is_at}
 use Rattle.table.proofs.entries.entry_at.Goals as goal
 
 pub returns : goal.returns

@@ -1,5 +1,5 @@
 use Rattle.std.proofs.Common.{rules, refl, ◌∙◌, ap, ◌++◌, List, ℕ}
-use Rattle.table.proofs.Located.{entry_made}
+use Rattle.table.proofs.Positions.{entry_made}
 use Rattle.table.proofs.entries.entry_for.Goals as goal
 
 pub returns : goal.returns

@@ -1,5 +1,5 @@
 use Rattle.std.proofs.Common.{rules}
-use Rattle.table.proofs.Located.{entry_is}
+use Rattle.table.proofs.Positions.{entry_is}
 use Rattle.table.proofs.entries.entry_of.Goals as goal
 
 pub returns-in_err-k : goal.returns-in_err-k

@@ -1,5 +1,5 @@
 use Rattle.std.proofs.Common.{rules}
-use Rattle.table.proofs.Located.{id_is}
+use Rattle.table.proofs.Positions.{id_is}
 use Rattle.table.proofs.entries.id_of.Goals as goal
 
 pub returns : goal.returns

@@ -1,4 +1,4 @@
-use Rattle.std.proofs.Common.{◌≡◌, ◌++◌, ◌*◌, ◌-◌, ◌/◌, length, take, drop}
+use Rattle.std.proofs.Common.{◌≡◌, ◌++◌, ◌*◌, ◌-◌, take, drop}
 use Rattle.table.specs.Passwords.{moved_in}
 use Rattle.table.proofs.passwords.move_all.Given as goal
 

@@ -1,8 +1,6 @@
-use Rattle.std.proofs.Common.{rules, ◌≡◌, length, take, drop, true, false}
-use Rattle.cipher.specs.Cipher.{deciphered}
-use Rattle.keys.specs.Keys.{notarized}
+use Rattle.std.proofs.Common.{rules, ◌≡◌, true, false}
 use Rattle.table.specs.Entries.{id_of}
-use Rattle.table.specs.Passwords.{big, sealed}
+use Rattle.table.specs.Passwords.{big}
 use Rattle.table.proofs.Laws.{entry_stays, entry_moves}
 use Rattle.table.proofs.passwords.moved_entry.Goals as goal
 
@@ -14,4 +12,5 @@ returns-then-is_big c =
 pub returns : goal.returns
 returns c =
     let e : big (id_of c.args.entry) ≡ false = search rules in
-    entry_moves c.args.old.0 c.args.current.0 c.args.entry (search rules) _ c.seal_password.result e (search rules) c.put_at.ensures
+    entry_moves c.args.old.0 c.args.current.0 c.args.entry (search rules)
+    _ c.seal_password.result e (search rules) c.put_at.ensures
