@@ -1,7 +1,7 @@
 -- Numbers in decimal, bytes in upper-case hexadecimal.
 use Rattle.std.specs.Prelude.{◌≡◌, true, false, cond, List, [], ◌∷◌, ◌++◌, ℕ, zero, suc, ◌+◌, ◌*◌, ◌/◌, ◌%◌, ◌^◌, ◌≤◌, ◌<◌, ltb, length, get_or, take, refl}
-use Rattle.std.proofs.Common.{sym, ap, ◌∙◌, append_assoc, append-nil, pow-suc, arith, lt-ltb, le-ltb}
-use Rattle.std.proofs.lemmas.List.{take_more}
+use Rattle.std.proofs.Common.{sym, ap, pow-suc, arith, lt-ltb, le-ltb}
+use Rattle.printout.specs.Parts.{parts_more}
 
 -- 0 to 9 are the letters 48 to 57, A to F 65 to 70
 unfoldable pub hex_digit : ℕ → ℕ
@@ -14,17 +14,10 @@ unfoldable pub hex : List ℕ → List ℕ
 hex [] = []
 hex (b ∷ bs) = hex_byte b ++ hex bs
 
-hex_append : (xs ys : List ℕ) → hex (xs ++ ys) ≡ hex xs ++ hex ys
-unfolding hex
-hex_append [] ys = refl
-hex_append (x ∷ xs) ys = ap (λ (r : List ℕ). hex_byte x ++ r) (hex_append xs ys) ∙ sym (append_assoc (hex_byte x) (hex xs) (hex ys))
-
 -- one byte more
 pub hex_more : (bs : List ℕ) (i : ℕ) → i < length bs → hex (take i bs) ++ hex_byte (get_or bs i 0) ≡ hex (take (i + 1) bs)
 unfolding hex
-hex_more bs i h =
-    let one : hex (get_or bs i 0 ∷ []) ≡ hex_byte (get_or bs i 0) = append-nil (hex_byte (get_or bs i 0)) in
-    sym (ap hex (take_more bs i 0 h) ∙ hex_append (take i bs) (get_or bs i 0 ∷ []) ∙ ap (λ (r : List ℕ). hex (take i bs) ++ r) one)
+hex_more bs i h = parts_more hex_byte hex refl (λ b bs. refl) bs i 0 h
 
 -- at most so many digits
 unfoldable pub decimal_in : ℕ → ℕ → List ℕ

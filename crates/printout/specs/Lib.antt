@@ -1,5 +1,6 @@
 pub mod Page
 pub mod Inked
+pub mod Parts
 pub mod Digits
 pub mod Lines
 pub mod Text

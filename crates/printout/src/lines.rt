@@ -16,7 +16,6 @@ fn put_shown(page: &mut Page, bytes: &[u8])
     }
 }
 
-#[tactic(auto, using(crate::specs::Inked::entries), unfolding(crate::specs::Lines::line))]
 pub fn put_line(page: &mut Page, ordinal: usize, tag: u8, reply: u8, bytes: &[u8])
     ensures { page.new ≡ inked (line ordinal tag reply bytes.now) page.old }
 {

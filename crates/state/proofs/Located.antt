@@ -1,137 +1,99 @@
--- From a loop that finds an index to `find`, `put` and `admit`, the definition's words.
-use Rattle.std.specs.Prelude.{◌≡◌, refl, Bool, true, false, cond, List, [], ◌∷◌, ℕ, zero, suc, ◌+◌, ◌≤◌, ◌<◌, ◌≢◌, eqb, ltb, length, get_or, set}
-use Rattle.std.proofs.Common.{sym, ap, ◌∙◌, lit≤, eqb-true, eq-eqb, ne_eqb, ltb-false, not-suc-le-zero, arith}
-use Rattle.std.proofs.lemmas.Bool.{false≢true, eqb-false}
-use Rattle.std.proofs.Math.Option.{none, some}
+-- From an index that a search finds to `find`, `put` and `admit`, the definition's words.
+use Rattle.std.specs.Prelude.{◌≡◌, refl, Bool, true, false, cond, not, Option, None, Some, option_map, is_none, List, [], ◌∷◌, ℕ, suc, get_or, ◌+◌, ◌≤◌, ◌<◌, ltb, length, position, set}
+use Rattle.std.specs.List.{position_or_len}
+use Rattle.std.specs.Option.{option_or}
+use Rattle.std.proofs.Common.{sym, ap, ◌∙◌, ltb-false, ltb-true, lt-ltb, le-ltb, arith, add-one}
+use Rattle.std.proofs.lemmas.Bool.{false≢true}
 use Rattle.ground.specs.Search.{by_test}
 use Rattle.state.specs.declared.Place.{Place}
-use Rattle.state.specs.declared.Found.{Found}
 use Rattle.state.specs.declared.Holdings.{Holdings}
-use Rattle.state.specs.declared.Found.TheVariants.{At, Nothing}
-use Rattle.state.specs.State.{has, find, put, all_taken, admit, named, seat, vacant, give, leave, shut_to}
-use Rattle.state.specs.Located.{spare, Before, Located, Free}
+use Rattle.state.specs.State.{has, find, put, all_taken, admit, named, spare, seat, vacant, give, give_to, leave}
 
--- what the code's two tests of a place tell
-pub has_yes : (u : ℕ) (p : Place) → p.taken ≡ true → p.user ≡ u → has u p ≡ true
-has_yes u p k e = rw k (eq-eqb u p.user (sym e))
+-- x at the index that a search found
+abbrev pub stored : Place → List Place → Option ℕ → List Place
+stored x ps None = ps
+stored x ps (Some i) = set ps i x
 
-pub has-free : (u : ℕ) (p : Place) → p.taken ≡ false → has u p ≡ false
-has-free u p k = rw k
+abbrev pub free : Place → Bool
+free p = not p.taken
 
-pub has_other : (u : ℕ) (p : Place) → (p.user ≡ u → ⊥) → has u p ≡ false
-has_other u p n = by_test p.taken (λ k. rw k (ne_eqb u p.user (λ q. n (sym q)))) (λ k. rw k)
+position_cons : (f : Place → Bool) (p : Place) (ps : List Place) → position f (p ∷ ps) ≡ cond (f p) (Some 0) (option_map suc (position f ps))
+position_cons f p ps = by (f p) (position_or_len f ps) (length ps)
+  where
+    by : (b : Bool) (m n : ℕ)
+        → cond (ltb (cond (not b) (1 + m) 0) (suc n)) (Some (cond (not b) (1 + m) 0)) None ≡ cond b (Some 0) (option_map suc (cond (ltb m n) (Some m) None))
+    by true m n = rw (lt-ltb 0 (suc n) (omega arith))
+    by false m n = by_test (ltb m n)
+        (λ e. let h : m < n = ltb-true m n e in rw (lt-ltb (1 + m) (suc n) (omega arith), e) (ap Some (omega arith)))
+        (λ e. let h : n ≤ m = ltb-false m n e in rw (le-ltb (1 + m) (suc n) (omega arith), e))
 
--- one more place is passed
-pub more : (f : Place → Bool) (ps : List Place) (i : ℕ) → Before f ps i → f (get_or ps i spare) ≡ false → Before f ps (i + 1)
-more f ps i b n j h =
-    by_test (eqb j i)
-    (λ e. rw (eqb-true j i e) n)
-    (λ e. let d : j ≢ i = eqb-false j i e in b j (omega arith))
+stored_cons : (b : Bool) (x p : Place) (ps : List Place) (o : Option ℕ) → stored x (p ∷ ps) (cond b (Some 0) (option_map suc o)) ≡ cond b (x ∷ ps) (p ∷ stored x ps o)
+stored_cons true x p ps o = refl
+stored_cons false x p ps None = refl
+stored_cons false x p ps (Some i) = refl
 
-later : (f : Place → Bool) (p : Place) (ps : List Place) (i : ℕ) → Before f (p ∷ ps) (suc i) → Before f ps i
-later f p ps i b j h = b (suc j) (omega arith)
+none_cons : (b : Bool) (o : Option ℕ) → is_none (cond b (Some 0) (option_map suc o)) ≡ cond b false (is_none o)
+none_cons true o = refl
+none_cons false None = refl
+none_cons false (Some i) = refl
 
-pub find_at : (u : ℕ) (ps : List Place) (i : ℕ) → has u (get_or ps i spare) ≡ true → Before (has u) ps i → find u ps ≡ some (get_or ps i spare).holdings
-find_at u [] i e b = absurd (false≢true e)
-find_at u (p ∷ ps) zero e b = rw e
-find_at u (p ∷ ps) (suc i) e b = rw (b 0 (omega arith)) (find_at u ps i e (later (has u) p ps i b))
+put_is : (u : ℕ) (x : Place) (ps : List Place) → put u x ps ≡ stored x ps (position (has u) ps)
+put_is u x [] = refl
+put_is u x (p ∷ ps) = rw (position_cons (has u) p ps, stored_cons (has u p) x p ps (position (has u) ps), put_is u x ps)
 
-pub put_at : (u : ℕ) (x : Place) (ps : List Place) (i : ℕ) → has u (get_or ps i spare) ≡ true → Before (has u) ps i → put u x ps ≡ set ps i x
-put_at u x [] i e b = refl
-put_at u x (p ∷ ps) zero e b = rw e
-put_at u x (p ∷ ps) (suc i) e b = rw (b 0 (omega arith)) (ap {B = List Place} (λ r. p ∷ r) (put_at u x ps i e (later (has u) p ps i b)))
-
-pub find_nowhere : (u : ℕ) (ps : List Place) (n : ℕ) → length ps ≤ n → Before (has u) ps n → find u ps ≡ none
-find_nowhere u [] n l b = refl
-find_nowhere u (p ∷ ps) zero l b = absurd (not-suc-le-zero l)
-find_nowhere u (p ∷ ps) (suc n) l b = rw (b 0 (omega arith)) (find_nowhere u ps n (omega arith) (later (has u) p ps n b))
+pub leave_is : (u : ℕ) (ps : List Place) → leave u ps ≡ stored vacant ps (position (has u) ps)
+unfolding leave
+leave_is u ps = put_is u vacant ps
 
 -- the first free place
-pub admit_at : (x : Place) (ps : List Place) (i : ℕ) → i < length ps → (get_or ps i spare).taken ≡ false → ((j : ℕ) → j < i → (get_or ps j spare).taken ≡ true)
-    → (admit x ps ≡ set ps i x) × (all_taken ps ≡ false)
-admit_at x [] i l e b = absurd (not-suc-le-zero l)
-admit_at x (p ∷ ps) zero l e b = (rw e, rw e)
-admit_at x (p ∷ ps) (suc i) l e b =
-    let ih = admit_at x ps i (omega arith) e (λ j h. b (suc j) (omega arith)) in
-    let k : p.taken ≡ true = b 0 (omega arith) in
-    (by_cond k (ap {B = List Place} (λ r. p ∷ r) ih.0), rw k ih.1)
+admit_is : (x : Place) (ps : List Place) → admit x ps ≡ stored x ps (position free ps)
+admit_is x [] = refl
+admit_is x (p ∷ ps) = rw (position_cons free p ps, stored_cons (free p) x p ps (position free ps), admit_is x ps) (turned p.taken)
   where
-    by_cond : p.taken ≡ true → ◌≡◌ {A = List Place} (p ∷ admit x ps) (p ∷ set ps i x) → admit x (p ∷ ps) ≡ p ∷ set ps i x
-    by_cond k q = ap (λ (b : Bool). cond b (p ∷ admit x ps) (x ∷ ps)) k ∙ q
+    turned : (b : Bool) → cond b (p ∷ stored x ps (position free ps)) (x ∷ ps) ≡ cond (not b) (x ∷ ps) (p ∷ stored x ps (position free ps))
+    turned true = refl
+    turned false = refl
 
--- ---- what a search found, in the definition's words
+pub find_is : (u : ℕ) (ps : List Place) → find u ps ≡ option_map (λ i. (get_or ps i spare).holdings) (position (has u) ps)
+find_is u [] = refl
+find_is u (p ∷ ps) = rw (position_cons (has u) p ps, find_is u ps) (by (has u p) (position (has u) ps))
+  where
+    by : (b : Bool) (o : Option ℕ)
+        → cond b (Some p.holdings) (option_map (λ i. (get_or ps i spare).holdings) o)
+        ≡ option_map (λ i. (get_or (p ∷ ps) i spare).holdings) (cond b (Some 0) (option_map suc o))
+    by true o = refl
+    by false None = refl
+    by false (Some i) = refl
 
-pub below16 : (u : ℕ) (ps : List Place) (r : Found) (i : ℕ) → Located u ps r → r ≡ At i → i < 16
-below16 u ps r i p e = let q : Located u ps (At i) = rw e at p in q.0
+pub all_taken_is : (ps : List Place) → all_taken ps ≡ is_none (position free ps)
+all_taken_is [] = refl
+all_taken_is (p ∷ ps) = rw (position_cons free p ps, none_cons (free p) (position free ps), all_taken_is ps) (turned p.taken)
+  where
+    turned : (b : Bool) → cond b (is_none (position free ps)) false ≡ cond (not b) false (is_none (position free ps))
+    turned true = refl
+    turned false = refl
 
-pub find_found : (u : ℕ) (ps : List Place) (r : Found) (i : ℕ) → Located u ps r → r ≡ At i → find u ps ≡ some (get_or ps i spare).holdings
-find_found u ps r i p e = let q : Located u ps (At i) = rw e at p in find_at u ps i q.1 q.2
+-- a search by the user's identifier finds an index where `find` finds holdings
+pub same_none : (u : ℕ) (ps : List Place) → is_none (position (has u) ps) ≡ is_none (find u ps)
+same_none u [] = refl
+same_none u (p ∷ ps) = rw (position_cons (has u) p ps, none_cons (has u p) (position (has u) ps), same_none u ps) (turned (has u p))
+  where
+    turned : (b : Bool) → cond b false (is_none (find u ps)) ≡ is_none (cond b (Some p.holdings) (find u ps))
+    turned true = refl
+    turned false = refl
 
-pub find_missing : (u : ℕ) (ps : List Place) (r : Found) → Located u ps r → r ≡ Nothing → find u ps ≡ none
-find_missing u ps r p e = let q : Located u ps Nothing = rw e at p in find_nowhere u ps 16 (rw q.0 (lit≤ tt)) q.1
-
-pub put_found : (u : ℕ) (x : Place) (ps : List Place) (r : Found) (i : ℕ) → Located u ps r → r ≡ At i → put u x ps ≡ set ps i x
-put_found u x ps r i p e = let q : Located u ps (At i) = rw e at p in put_at u x ps i q.1 q.2
+pub give_is : (u : ℕ) (h : Holdings) (ps : List Place) → give u h ps ≡ stored (seat u h) ps (option_or (position (has u) ps) (position free ps))
+unfolding give
+give_is u h ps = by (find u ps) (position (has u) ps) (same_none u ps) (put_is u (seat u h) ps)
+  where
+    by : (o : Option Holdings) (r : Option ℕ) → is_none r ≡ is_none o → put u (seat u h) ps ≡ stored (seat u h) ps r
+        → give_to o u h ps ≡ stored (seat u h) ps (option_or r (position free ps))
+    by None None e q = admit_is (seat u h) ps
+    by None (Some i) e q = absurd (false≢true e)
+    by (Some g) None e q = absurd (false≢true (sym e))
+    by (Some g) (Some i) e q = q
 
 pub named_in : (i : ℕ) → named i ≡ true → (1 ≤ i) × (i ≤ 15)
 unfolding named
 named_in i h = by_test (ltb i 1) (λ a. absurd (false≢true (rw a at h)))
     (λ a. by_test (ltb 15 i) (λ b. absurd (false≢true (rw (a, b) at h))) (λ b. (ltb-false i 1 a, ltb-false 15 i b)))
-
--- ---- no place, or the first free one
-
-pub shut_found : (u : ℕ) (ps : List Place) (r : Found) (i : ℕ) → Located u ps r → r ≡ At i → shut_to (find u ps) ps ≡ false
-unfolding shut_to
-shut_found u ps r i p e = rw (find_found u ps r i p e)
-
-all_at : (ps : List Place) (n : ℕ) → length ps ≤ n → ((j : ℕ) → j < n → (get_or ps j spare).taken ≡ true) → (x : Place) → (all_taken ps ≡ true) × (admit x ps ≡ ps)
-all_at [] n l b x = (refl, refl)
-all_at (p ∷ ps) zero l b x = absurd (not-suc-le-zero l)
-all_at (p ∷ ps) (suc n) l b x =
-    let ih = all_at ps n (omega arith) (λ j h. b (suc j) (omega arith)) x in
-    let k : p.taken ≡ true = b 0 (omega arith) in
-    (rw k ih.0, ap (λ (b : Bool). cond b (p ∷ admit x ps) (x ∷ ps)) k ∙ ap {B = List Place} (λ r. p ∷ r) ih.1)
-
-module _ (u : ℕ) (h : Holdings) (ps : List Place) (r : Found) (p : Located u ps r) where
-  pub give_found : (i : ℕ) → r ≡ At i → give u h ps ≡ set ps i (seat u h)
-  unfolding give
-  give_found i e = rw (find_found u ps r i p e) (put_found u (seat u h) ps r i p e)
-
-  module _ (e : r ≡ Nothing) (s : Found) (q : Free ps s) where
-    pub give-free : (i : ℕ) → s ≡ At i → give u h ps ≡ set ps i (seat u h)
-    unfolding give
-    give-free i d =
-        let z : Free ps (At i) = rw d at q in
-        rw (find_missing u ps r p e) (admit_at (seat u h) ps i (omega arith) z.2 z.3).0
-
-    pub give_full : s ≡ Nothing → give u h ps ≡ ps
-    unfolding give
-    give_full d = let z : Free ps Nothing = rw d at q in rw (find_missing u ps r p e) (all_at ps 16 (rw z.0 (lit≤ tt)) z.1 (seat u h)).1
-
-    pub shut_free : (i : ℕ) → s ≡ At i → shut_to (find u ps) ps ≡ false
-    unfolding shut_to
-    shut_free i d =
-        let z : Free ps (At i) = rw d at q in
-        rw (find_missing u ps r p e) (admit_at (seat u h) ps i (omega arith) z.2 z.3).1
-
-    pub shut_full : s ≡ Nothing → shut_to (find u ps) ps ≡ true
-    unfolding shut_to
-    shut_full d = let z : Free ps Nothing = rw d at q in rw (find_missing u ps r p e) (all_at ps 16 (rw z.0 (lit≤ tt)) z.1 (seat u h)).0
-
-pub below16_free : (ps : List Place) (r : Found) (i : ℕ) → Free ps r → r ≡ At i → i < 16
-below16_free ps r i p e = let q : Free ps (At i) = rw e at p in q.0
-
--- ---- leaving
-
-put_nowhere : (u : ℕ) (x : Place) (ps : List Place) (n : ℕ) → length ps ≤ n → Before (has u) ps n → put u x ps ≡ ps
-put_nowhere u x [] n l b = refl
-put_nowhere u x (p ∷ ps) zero l b = absurd (not-suc-le-zero l)
-put_nowhere u x (p ∷ ps) (suc n) l b = rw (b 0 (omega arith)) (ap {B = List Place} (λ r. p ∷ r) (put_nowhere u x ps n (omega arith) (later (has u) p ps n b)))
-
-pub leave_found : (u : ℕ) (ps : List Place) (r : Found) (i : ℕ) → Located u ps r → r ≡ At i → leave u ps ≡ set ps i vacant
-unfolding leave
-leave_found u ps r i p e = put_found u vacant ps r i p e
-
-pub leave_missing : (u : ℕ) (ps : List Place) (r : Found) → Located u ps r → r ≡ Nothing → leave u ps ≡ ps
-unfolding leave
-leave_missing u ps r p e = let q : Located u ps Nothing = rw e at p in put_nowhere u vacant ps 16 (rw q.0 (lit≤ tt)) q.1

@@ -1,34 +1,43 @@
-// What a facility holds. Whatever may be missing has a mark beside it; what a command removes it overwrites with zeros, so that nothing stays behind.
+// What a facility holds. What a command removes it overwrites with zeros, so that nothing stays behind.
 
 #![tactic(auto)]
+
+ghost use Rattle.std.specs.Prelude.{◌≡◌};
+ghost use Rattle.state.specs.State.{held, known};
 
 pub mod interchanges;
 pub mod places;
 
 use cipher::keys::{DataKey, InterchangeKey, Vector};
 
+// No Option: bytes may be handed in beside a mark of missing, and they stay until a command overwrites them.
 #[derive(Clone, Copy)]
-pub struct HeldKey {
+pub struct Held<T> {
     pub present: bool,
-    pub key: DataKey,
+    pub value: T,
 }
 
-#[derive(Clone, Copy)]
-pub struct HeldVector {
-    pub present: bool,
-    pub vector: Vector,
-}
+impl<T: Copy> Held<T> {
+    pub fn of(value: T) -> Self
+        ensures { result ≡ held value }
+    {
+        Held {
+            present: true,
+            value,
+        }
+    }
 
-#[derive(Clone, Copy)]
-pub struct HeldInterchangeKey {
-    pub present: bool,
-    pub key: InterchangeKey,
+    pub fn known(self) -> Option<T>
+        ensures { result ≡ known self }
+    {
+        if self.present { Some(self.value) } else { None }
+    }
 }
 
 #[derive(Clone, Copy)]
 pub struct Side {
-    pub key: HeldKey,
-    pub vector: HeldVector,
+    pub key: Held<DataKey>,
+    pub vector: Held<Vector>,
 }
 
 // What an active user holds: one side to transmit, one to receive.
@@ -38,6 +47,7 @@ pub struct Holdings {
     pub receive: Side,
 }
 
+// A free place is no Option either: what a user leaves is overwritten in it.
 #[derive(Clone, Copy)]
 pub struct Place {
     pub taken: bool,
@@ -48,23 +58,9 @@ pub struct Place {
 // The key of interchange n stands at n - 1. Interchange 1 is the facility's own.
 #[derive(Clone, Copy)]
 pub struct Facility {
-    pub current_keys: [HeldInterchangeKey; 15],
-    pub old_keys: [HeldInterchangeKey; 15],
+    pub current_keys: [Held<InterchangeKey>; 15],
+    pub old_keys: [Held<InterchangeKey>; 15],
     // passwords wait to be reencrypted
     pub due: bool,
     pub places: [Place; 16],
-}
-
-// What the facility holds for a user, if he is active: the first of his places counts.
-#[derive(Clone, Copy)]
-pub struct Seat {
-    pub active: bool,
-    pub holdings: Holdings,
-}
-
-// Where a search ended.
-#[derive(Clone, Copy)]
-pub enum Found {
-    At(usize),
-    Nothing,
 }

@@ -1,25 +1,24 @@
 // The sixteen places.
-ghost use Rattle.std.specs.Prelude.{◌≡◌};
-ghost use Rattle.state.specs.State.{bare, vacant, seat, seat_of, find, shut_to, give, leave, fresh, with_places};
-ghost use Rattle.state.specs.Located.{Located, Free};
+ghost use Rattle.std.specs.Prelude.{◌≡◌, not, position};
+ghost use Rattle.state.specs.State.{bare, vacant, seat, has, find, shut_to, give, leave, fresh, with_places};
 
-use crate::{
-    Facility, Found, HeldInterchangeKey, HeldKey, HeldVector, Holdings, Place, Seat, Side,
-};
-use cipher::keys::{DataKey, InterchangeKey, Vector};
+use crate::interchanges::NO_KEY;
+use crate::{Facility, Held, Holdings, Place, Side};
+use cipher::keys::{DataKey, Vector};
 
 pub fn nothing_held() -> Holdings
     ensures { result ≡ bare }
 {
-    let key = HeldKey {
-        present: false,
-        key: DataKey([0; 8]),
+    let side = Side {
+        key: Held {
+            present: false,
+            value: DataKey([0; 8]),
+        },
+        vector: Held {
+            present: false,
+            value: Vector([0; 8]),
+        },
     };
-    let vector = HeldVector {
-        present: false,
-        vector: Vector([0; 8]),
-    };
-    let side = Side { key, vector };
     Holdings {
         transmit: side,
         receive: side,
@@ -50,129 +49,61 @@ fn place_for(user: u32, holdings: Holdings) -> Place
 pub fn fresh_facility() -> Facility
     ensures { result ≡ fresh }
 {
-    let none = HeldInterchangeKey {
-        present: false,
-        key: InterchangeKey([0; 8]),
-    };
-    let free = vacant_place();
     Facility {
-        current_keys: [none; 15],
-        old_keys: [none; 15],
+        current_keys: [NO_KEY; 15],
+        old_keys: [NO_KEY; 15],
         due: false,
-        places: [free; 16],
+        places: [vacant_place(); 16],
     }
 }
 
 // The first place of the user.
-fn place_of(places: [Place; 16], user: u32) -> Found
-    ensures { Located user places result }
+fn place_of(places: [Place; 16], user: u32) -> Option<usize>
+    ensures { result ≡ position (has user) places }
 {
-    let mut i: usize = 0;
-    while i < 16 {
-        if places[i].taken {
-            if places[i].user == user {
-                return Found::At(i);
-            }
-        }
-        i += 1;
-    }
-    Found::Nothing
+    places.iter().position(|p| p.taken && p.user == user)
 }
 
 // The first free place.
-fn free_place(places: [Place; 16]) -> Found
-    ensures { Free places result }
+fn free_place(places: [Place; 16]) -> Option<usize>
+    ensures { result ≡ position (λ p. not p.taken) places }
 {
-    let mut i: usize = 0;
-    while i < 16 {
-        if !places[i].taken {
-            return Found::At(i);
-        }
-        i += 1;
-    }
-    Found::Nothing
+    places.iter().position(|p| !p.taken)
 }
 
-// What the user holds.
-pub fn seat_of(f: Facility, user: u32) -> Seat
-    ensures { result ≡ seat_of (find user f.places) }
+// What the user holds, if he is active: the first of his places counts.
+pub fn seat_of(f: Facility, user: u32) -> Option<Holdings>
+    ensures { result ≡ find user f.places }
 {
-    let places = f.places;
-    let found = place_of(places, user);
-    match found {
-        Found::At(i) => {
-            let p = places[i];
-            let holdings = p.holdings;
-            Seat {
-                active: true,
-                holdings,
-            }
-        }
-        Found::Nothing => Seat {
-            active: false,
-            holdings: nothing_held(),
-        },
-    }
+    let i = place_of(f.places, user)?;
+    Some(f.places[i].holdings)
 }
 
 // The user has no place, and all are taken.
 pub fn is_shut_to(f: Facility, user: u32) -> bool
     ensures { result ≡ shut_to (find user f.places) f.places }
 {
-    let places = f.places;
-    let found = place_of(places, user);
-    match found {
-        Found::At(i) => false,
-        Found::Nothing => {
-            let free = free_place(places);
-            match free {
-                Found::At(j) => false,
-                Found::Nothing => true,
-            }
-        }
-    }
+    place_of(f.places, user).is_none() && free_place(f.places).is_none()
 }
 
 // The user's holdings become these: in the place that he has, else in the first free place.
 pub fn keep(f: Facility, user: u32, holdings: Holdings) -> Facility
     ensures { result ≡ with_places f (give user holdings f.places) }
 {
-    let mut g = f;
     let mut places = f.places;
-    let found = place_of(places, user);
-    match found {
-        Found::At(i) => {
-            places[i] = place_for(user, holdings);
-            g.places = places;
-            g
-        }
-        Found::Nothing => {
-            let free = free_place(places);
-            match free {
-                Found::At(j) => {
-                    places[j] = place_for(user, holdings);
-                    g.places = places;
-                    g
-                }
-                Found::Nothing => g,
-            }
-        }
+    if let Some(i) = place_of(places, user).or(free_place(places)) {
+        places[i] = place_for(user, holdings);
     }
+    Facility { places, ..f }
 }
 
 // The user's place is freed, with all in it.
 pub fn free_place_of(f: Facility, user: u32) -> Facility
     ensures { result ≡ with_places f (leave user f.places) }
 {
-    let mut g = f;
     let mut places = f.places;
-    let found = place_of(places, user);
-    match found {
-        Found::At(i) => {
-            places[i] = vacant_place();
-            g.places = places;
-            g
-        }
-        Found::Nothing => g,
+    if let Some(i) = place_of(places, user) {
+        places[i] = vacant_place();
     }
+    Facility { places, ..f }
 }

@@ -1,38 +1,20 @@
--- Of numbers and places on a page: one more of them.
-use mathlib.Core.Path.{◌≡◌, ap, ◌∙◌}
-use mathlib.Core.Bool.{true, false}
-use mathlib.Core.List.{List}
-use Prim.Native.Nat.{ℕ, suc, ◌+◌, ◌≤◌, ◌<◌}
-use native.Mathlib.Numerals.{add-one}
-use native.Mathlib.Omega.{arith}
-use lib.ListN.{length, get_or, drop, drop_of_length-le}
-use lib.Seq.{drop-cons}
-use Rattle.printout.specs.Page.{Page, entered, then}
-use Rattle.printout.specs.Digits.{decimal}
+-- Of places on a page: how many are taken, and one line more.
+use Rattle.std.specs.Prelude.{◌≡◌, refl, Bool, true, false, cond, List, ◌∷◌, ◌++◌, ℕ, ◌+◌, ◌<◌, length, get_or, take}
+use Rattle.std.specs.List.{count_by}
+use Rattle.std.proofs.Common.{sym, arith}
+use Rattle.std.proofs.lemmas.List.Recursion.{is_count_by}
+use Rattle.printout.specs.Parts.{parts_more}
 use Rattle.state.specs.declared.Place.{Place}
 use Rattle.state.specs.State.{holders}
-use Rattle.state.specs.Located.{spare}
 use Rattle.talk.specs.Who.{place_line, place_lines}
 
--- a number entered that is another's equal
-pub counted : (n m : ℕ) (p q : Page) → n ≡ m → q ≡ entered (decimal n) p → q ≡ entered (decimal m) p
-counted n m p q e f = f ∙ ap (λ (k : ℕ). entered (decimal k) p) e
+pub taken_count : (ps : List Place) → count_by (λ (p : Place). p.taken) ps ≡ length (holders ps)
+taken_count ps = sym (is_count_by (λ (qs : List Place). length (holders qs)) (λ p. p.taken) refl (λ p qs. either p.taken p.user (holders qs)) ps)
+  where
+    either : (b : Bool) (u : ℕ) (us : List ℕ) → length (cond b (u ∷ us) us) ≡ cond b (1 + length us) (length us)
+    either true u us = omega arith
+    either false u us = refl
 
--- ---- one place more
-
-pub lines_step : (ps : List Place) (i : ℕ) (p : Page) → i < length ps → entered (place_lines (drop i ps)) p ≡ entered (place_lines (drop (i + 1) ps)) (entered (place_line (get_or ps i spare)) p)
+pub places_more : (ps : List Place) (i : ℕ) (d : Place) → i < length ps → place_lines (take i ps) ++ place_line (get_or ps i d) ≡ place_lines (take (i + 1) ps)
 unfolding place_lines
-lines_step ps i p h = rw (add-one, drop-cons ps i spare h) (then (place_line (get_or ps i spare)) (place_lines (drop (suc i) ps)) p)
-
-pub lines_end : (ps : List Place) (i : ℕ) (p : Page) → length ps ≤ i → entered (place_lines (drop i ps)) p ≡ p
-unfolding place_lines entered
-lines_end ps i p h = rw drop_of_length-le
-
-pub taken_step : (ps : List Place) (i : ℕ) → i < length ps → (get_or ps i spare).taken ≡ true → length (holders (drop i ps)) ≡ 1 + length (holders (drop (i + 1) ps))
-taken_step ps i h e = rw (add-one, drop-cons ps i spare h, e) (omega arith)
-
-pub free_step : (ps : List Place) (i : ℕ) → i < length ps → (get_or ps i spare).taken ≡ false → length (holders (drop i ps)) ≡ length (holders (drop (i + 1) ps))
-free_step ps i h e = rw (add-one, drop-cons ps i spare h, e)
-
-pub taken_end : (ps : List Place) (i : ℕ) → length ps ≤ i → length (holders (drop i ps)) ≡ 0
-taken_end ps i h = rw drop_of_length-le
+places_more ps i d h = parts_more place_line place_lines refl (λ p ps. refl) ps i d h

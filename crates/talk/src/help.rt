@@ -1,14 +1,11 @@
 // What may be said to the desk, a line for each command.
 ghost use Rattle.std.specs.Prelude.{◌≡◌};
-ghost use Rattle.printout.specs.Page.{page, entered};
+ghost use Rattle.printout.specs.Inked.{inked};
 ghost use Rattle.talk.specs.Help.{help};
 
-use printout::page::put_all;
+use printout::page::Page;
 
-pub fn put_help(paper: &mut [u8], at: usize) -> usize
-    ensures { page paper.new result ≡ entered help (page paper.old at) }
-{
-    let text = b"\
+const HELP: &[u8] = b"\
 to begin                                  EIK 1, then IPW, then RAS
 RAS issuer password                       become active
 LAU issuer                                leave, with all that was loaded
@@ -41,5 +38,10 @@ who                                       who is active, and what is loaded
 help                                      these lines
 quit                                      leave the desk
 ";
-    put_all(&mut paper[..], at, text)
+
+#[tactic(auto, unfolding(crate::specs::Help::help))]
+pub fn put_help(page: &mut Page)
+    ensures { page.new ≡ inked help page.old }
+{
+    page.put_all(HELP);
 }

@@ -1,99 +1,63 @@
 // Who is active, and what each active user holds, without a byte of a key.
 ghost use Rattle.std.specs.Prelude.{◌≡◌, length};
-ghost use Rattle.printout.specs.Page.{page, entered};
+ghost use Rattle.printout.specs.Inked.{inked};
 ghost use Rattle.state.specs.State.{holders};
 ghost use Rattle.talk.specs.Who.{held, user_line, place_line, place_lines, who};
 
-use printout::digits::put_decimal;
-use printout::page::{put, put_all};
+use printout::page::Page;
 use state::{Facility, Place};
 
-fn put_held(paper: &mut [u8], at: usize, what: &[u8], present: bool) -> usize
-    ensures { page paper.new result ≡ entered (held what.now present) (page paper.old at) }
+#[tactic(auto, using(printout::specs::Inked::entries), unfolding(crate::specs::Who::held))]
+fn put_held(page: &mut Page, what: &[u8], present: bool)
+    ensures { page.new ≡ inked (held what.now present) page.old }
 {
-    let next = put_all(&mut paper[..], at, what);
-    if present {
-        put_all(&mut paper[..], next, b"present")
-    } else {
-        put_all(&mut paper[..], next, b"missing")
-    }
+    page.put_all(what);
+    page.put_all(if present { b"present" } else { b"missing" });
 }
 
-fn put_user(paper: &mut [u8], at: usize, p: Place) -> usize
-    ensures { page paper.new result ≡ entered (user_line p.user p.holdings) (page paper.old at) }
+#[tactic(auto, using(printout::specs::Inked::entries), unfolding(crate::specs::Who::user_line))]
+fn put_user(page: &mut Page, p: Place)
+    ensures { page.new ≡ inked (user_line p.user p.holdings) page.old }
 {
-    let t1 = put_decimal(&mut paper[..], at, p.user as usize);
-    let t2 = put_held(
-        &mut paper[..],
-        t1,
-        b": transmit key ",
-        p.holdings.transmit.key.present,
-    );
-    let t3 = put_held(
-        &mut paper[..],
-        t2,
-        b", receive key ",
-        p.holdings.receive.key.present,
-    );
-    let t4 = put_held(
-        &mut paper[..],
-        t3,
-        b", transmit IV ",
-        p.holdings.transmit.vector.present,
-    );
-    let t5 = put_held(
-        &mut paper[..],
-        t4,
-        b", receive IV ",
-        p.holdings.receive.vector.present,
-    );
-    put(&mut paper[..], t5, b'\n')
+    page.put_decimal(p.user as usize);
+    put_held(page, b": transmit key ", p.holdings.transmit.key.present);
+    put_held(page, b", receive key ", p.holdings.receive.key.present);
+    put_held(page, b", transmit IV ", p.holdings.transmit.vector.present);
+    put_held(page, b", receive IV ", p.holdings.receive.vector.present);
+    page.put(b'\n');
 }
 
 // Nothing for a free place.
-fn put_place(paper: &mut [u8], at: usize, p: Place) -> usize
-    ensures { page paper.new result ≡ entered (place_line p) (page paper.old at) }
+#[tactic(auto, using(printout::specs::Inked::inked_none), unfolding(crate::specs::Who::place_line))]
+fn put_place(page: &mut Page, p: Place)
+    ensures { page.new ≡ inked (place_line p) page.old }
 {
     if p.taken {
-        put_user(&mut paper[..], at, p)
-    } else {
-        at
+        put_user(page, p);
     }
 }
 
+#[tactic(auto, using(crate::proofs::Laws::taken_count))]
 fn active_users(places: [Place; 16]) -> usize
     ensures { result ≡ length (holders places) }
 {
-    let mut n: usize = 0;
-    let mut i: usize = 0;
-    while i < 16 {
-        if places[i].taken {
-            n += 1;
-        }
-        i += 1;
-    }
-    n
+    places.iter().filter(|p| p.taken).count()
 }
 
-fn put_places(paper: &mut [u8], at: usize, places: [Place; 16]) -> usize
-    ensures { page paper.new result ≡ entered (place_lines places) (page paper.old at) }
+#[tactic(auto, using(printout::specs::Inked::entries, crate::proofs::Laws::places_more), unfolding(crate::specs::Who::place_lines))]
+fn put_places(page: &mut Page, places: [Place; 16])
+    ensures { page.new ≡ inked (place_lines places) page.old }
 {
-    let mut to = at;
-    let mut i: usize = 0;
-    while i < 16 {
-        let p = places[i];
-        to = put_place(&mut paper[..], to, p);
-        i += 1;
+    for p in &places {
+        put_place(page, *p);
     }
-    to
 }
 
-pub fn put_who(paper: &mut [u8], at: usize, f: Facility) -> usize
-    ensures { page paper.new result ≡ entered (who f.places) (page paper.old at) }
+pub fn put_who(page: &mut Page, f: Facility)
+    ensures { page.new ≡ inked (who f.places) page.old }
 {
-    let places = f.places;
-    let t1 = put_all(&mut paper[..], at, b"active users: ");
-    let t2 = put_decimal(&mut paper[..], t1, active_users(places));
-    let t3 = put_all(&mut paper[..], t2, b" of 16\n");
-    put_places(&mut paper[..], t3, places)
+    page.put_all(b"active users: ");
+    page.put_decimal(active_users(f.places));
+    page.put_all(b" of 16\n");
+    put_places(page, f.places);
 }

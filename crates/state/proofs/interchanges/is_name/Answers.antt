@@ -1,15 +1,11 @@
-use borrow.Author.Tests.{lt-ltb, le-ltb}
+use Rattle.std.proofs.Common.{rules}
 use Rattle.state.specs.State.{named}
 use Rattle.state.proofs.interchanges.is_name.Goals as goal
 
-pub returns-then-name-lt1 : goal.returns-then-name-lt1
+pub returns-then-name-ge1 : goal.returns-then-name-ge1
 unfolding named
-returns-then-name-lt1 c = simp (lt-ltb _ _ c.if-name-lt1.true)
+returns-then-name-ge1 c = search rules
 
-pub returns-then-name-gt15 : goal.returns-then-name-gt15
+pub returns-else-name-ge1 : goal.returns-else-name-ge1
 unfolding named
-returns-then-name-gt15 c = simp (le-ltb _ _ c.if-name-lt1.false, lt-ltb _ _ c.if-name-gt15.true)
-
-pub returns : goal.returns
-unfolding named
-returns c = simp (le-ltb _ _ c.if-name-lt1.false, le-ltb _ _ c.if-name-gt15.false)
+returns-else-name-ge1 c = search rules

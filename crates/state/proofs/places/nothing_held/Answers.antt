@@ -1,4 +1,4 @@
-use mathlib.Core.Path.{refl}
+use Rattle.std.proofs.Common.{refl}
 use Rattle.state.specs.State.{bare}
 use Rattle.state.proofs.places.nothing_held.Goals as goal
 
