@@ -14,18 +14,17 @@ use Rattle.names.specs.declared.Says.{Says}
 use Rattle.names.specs.declared.Says.TheVariants.{Nothing, Command, Raw, Help, Who, Quit}
 use Rattle.names.specs.Names.{start_of}
 use Rattle.printout.specs.Text.{letters}
-use Rattle.reader.specs.declared.Line.{Line}
-use Rattle.reader.specs.Line.{wrong_line, so_far}
+use Rattle.reader.specs.Line.{Line, wrong_line, so_far}
 use Rattle.reader.specs.Command.{after, took_value, took_word, read_word, read_words, nothing_else, ended_line, command_line}
 use Rattle.reader.specs.Raw.{raw_hex, raw_word, raw_turn, raw_turns, raw_start, raw_line}
 use Rattle.reader.specs.Reader.{alone_line, says_line, started_line, first_word, read_line}
-use Rattle.stream.specs.Commands.{form_of}
+use Rattle.stream.specs.Commands.{arguments_of}
+use Rattle.std.specs.Prelude.{unwrap_or}
 use Rattle.stream.specs.Fields.{part}
 use Rattle.values.specs.declared.Source.{Source}
-use Rattle.values.specs.declared.Value.{Value}
 use Rattle.values.specs.Numbers.{decimal_value, up_to}
 use Rattle.values.specs.Sources.{answer_source}
-use Rattle.values.specs.Values.{fitting, wrong, number_found, number_value, function_letter, function_value, hex_block, data_of, hex_data, hex_for, answer_block, answer_data, answer_for, expected_bytes, answer_found, answer_value, bytes_value}
+use Rattle.values.specs.Values.{Value, fitting, wrong, number_found, number_value, function_letter, function_value, hex_block, data_of, hex_data, hex_for, answer_block, answer_data, answer_for, expected_bytes, answer_found, answer_value, bytes_value}
 use Rattle.values.specs.Fields.{expected_for, plain_value, text_value, value_of}
 use Rattle.words.specs.declared.Class.TheVariants.{Blank, Plain, Text, Digit, Hex}
 use Rattle.words.specs.declared.Expected.{Expected}
@@ -244,8 +243,7 @@ module _ (l : List ℕ) where
     word_rests : (r : Line) (k : ℕ) → Rests r → Rests (read_word l kept ends r k)
     unfolding read_word
     word_rests r k h =
-        chosen Rests (eqb k 0) _ _ (λ e. h)
-        (λ e. chosen Rests r.fits _ _ (λ f. took_rests r k (word_at l r.at) (word_lies r.at h.within)) (λ f. h))
+        chosen Rests r.fits _ _ (λ f. took_rests r k (word_at l r.at) (word_lies r.at h.within)) (λ f. h)
 
     words_rest : (r : Line) (ks : List ℕ) → Rests r → Rests (read_words l kept ends r ks)
     unfolding read_words
@@ -293,7 +291,7 @@ module _ (l : List ℕ) where
   says_rests : (kept ends : List ℕ) (at t : ℕ) (s : Says) → at ≤ length l → Rests (says_line l kept ends at t s)
   unfolding says_line command_line raw_line
   says_rests kept ends at t Nothing h = alone_rests Nothing at h
-  says_rests kept ends at t Command h = ended_rests _ (words_rest kept ends _ (form_of t).arguments (so_far_rests Command t at _ h))
+  says_rests kept ends at t Command h = ended_rests _ (words_rest kept ends _ (unwrap_or (arguments_of t) []) (so_far_rests Command t at _ h))
   says_rests kept ends at t Raw h = raw_rests at (word_at l at) h (word_lies at h)
   says_rests kept ends at t Help h = alone_rests Help at h
   says_rests kept ends at t Who h = alone_rests Who at h

@@ -2,14 +2,13 @@
 use Rattle.std.specs.Prelude.{◌≡◌, true, false, List, [], ℕ, drop}
 use Rattle.std.proofs.Math.Path.{refl, sym}
 use Rattle.std.proofs.Common.{ap, ◌∙◌, arith}
-use Rattle.std.proofs.Math.Option.{some}
+use Rattle.std.specs.Prelude.{Some}
 use Rattle.names.specs.declared.Says.TheVariants.{Command}
-use Rattle.reader.specs.declared.Line.{Line}
-use Rattle.reader.specs.Line.{so_far}
+use Rattle.reader.specs.Line.{Line, so_far}
 use Rattle.reader.specs.Command.{read_words, ended_line, command_line}
 use Rattle.stream.specs.declared.Request.{Request}
 use Rattle.stream.specs.Fields.{Bytes}
-use Rattle.stream.specs.Commands.{arguments_of, form_of, blank}
+use Rattle.stream.specs.Commands.{arguments_of, blank}
 use Rattle.stream.specs.Grammar.{argument, among}
 use Rattle.stream.specs.RequestLaws.{Sound}
 use Rattle.stream.proofs.RequestLaws.{blank_sound, same_request, same_data}
@@ -18,9 +17,9 @@ use Rattle.values.specs.declared.Origin.TheVariants.{Letters}
 use Rattle.values.specs.Sources.{source, meant}
 use Rattle.grammar.specs.Lines.{Piece, Lines}
 use Rattle.grammar.specs.Says.{Each}
-use Rattle.grammar.proofs.ReadLaws.{said, tells, words-padded, Read, fits_read, Done, said_read, ended_none, fits-ended}
+use Rattle.grammar.proofs.ReadLaws.{said, tells, Read, fits_read, Done, said_read, ended_none, fits-ended}
 
-module _ (l kept ends : List ℕ) (t : ℕ) (ks : List ℕ) (known : arguments_of t ≡ some ks) (at : ℕ) where
+module _ (l kept ends : List ℕ) (t : ℕ) (ks : List ℕ) (known : arguments_of t ≡ Some ks) (at : ℕ) where
   abbrev named : Line
   named = so_far Command t at (source Letters 0 0)
 
@@ -28,8 +27,8 @@ module _ (l kept ends : List ℕ) (t : ℕ) (ks : List ℕ) (known : arguments_o
   all_read = read_words l kept ends named ks
 
   command_read : command_line t l kept ends at ≡ ended_line l all_read
-  unfolding command_line form_of
-  command_read = rw (known, words-padded l kept ends named 5 ks (arguments_ordered t ks known).1)
+  unfolding command_line
+  command_read = rw known
 
   -- before the first word it says nothing of any field
   named-tells : (j : ℕ) → tells l kept ends named j ≡ argument j (blank t) []

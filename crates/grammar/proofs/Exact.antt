@@ -3,17 +3,15 @@ use Rattle.std.specs.Prelude.{◌≡◌, true, false, ◌↔◌, ℕ, ◌+◌, d
 use Rattle.std.proofs.Math.Path.{refl, ap, subst}
 use Rattle.std.proofs.Common.{sym, ◌∙◌, subst₂, true≢false}
 use Rattle.std.proofs.lemmas.Bool.{false≢true}
-use Rattle.std.proofs.Math.Option.{some}
+use Rattle.std.specs.Prelude.{Some}
 use mathlib.Core.List.{List, [], ◌∷◌, map}
 use Rattle.std.proofs.Math.ListN.{length}
 use Rattle.ground.specs.Search.{by_test}
 use Rattle.names.specs.declared.Says.{Says}
 use Rattle.names.specs.declared.Says.TheVariants.{Nothing, Command, Raw, Help, Who, Quit}
-use Rattle.names.specs.declared.Start.{Start}
-use Rattle.names.specs.Names.{capital, name, start_of}
+use Rattle.names.specs.Names.{Start, capital, name, start_of}
 use Rattle.printout.specs.Text.{letters}
-use Rattle.reader.specs.declared.Line.{Line}
-use Rattle.reader.specs.Line.{wrong_line, so_far}
+use Rattle.reader.specs.Line.{Line, wrong_line, so_far}
 use Rattle.reader.specs.Command.{command_line}
 use Rattle.reader.specs.Raw.{raw_line}
 use Rattle.reader.specs.Reader.{alone_line, says_line, started_line, first_word, read_line}
@@ -91,7 +89,7 @@ module _ (l kept ends : List ℕ) where
 
     -- ---- what fits is the grammar's
 
-    command_right : (t : ℕ) (ks : List ℕ) → arguments_of t ≡ some ks → map capital w ≡ name t → Right (command_line t l kept ends at)
+    command_right : (t : ℕ) (ks : List ℕ) → arguments_of t ≡ Some ks → map capital w ≡ name t → Right (command_line t l kept ends at)
     command_right t ks known e h =
         let f = fits_command l kept ends t ks known at h in
         let tag = f.sound.tagged in

@@ -3,14 +3,14 @@ use Rattle.std.specs.Prelude.{◌≡◌, refl, Bool, true, false, cond, ℕ, ◌
 use Rattle.std.proofs.Common.{sym, ap₂, ◌∙◌, arith, eqb-true, leb-true}
 use Rattle.std.proofs.Math.Path.{ap}
 use Rattle.std.proofs.lemmas.Bool.{false≢true, lt-leb}
-use Rattle.std.proofs.Math.Option.{Option, none, some, none-ne-some}
+use Rattle.std.specs.Prelude.{Option, None, Some}
+use Rattle.std.proofs.lemmas.Option.{none-some}
 use mathlib.Core.List.{List, [], ◌∷◌, map, nil≢cons, head-eq_of_cons-eq, tail-eq_of_cons-eq}
 use Prim.Native.Char.{code}
 use Rattle.ground.specs.Search.{by_test}
 use Rattle.names.specs.declared.Says.{Says}
 use Rattle.names.specs.declared.Says.TheVariants.{Nothing, Command, Raw, Help, Who, Quit}
-use Rattle.names.specs.declared.Start.{Start}
-use Rattle.names.specs.Names.{capital, same_name, names, name, start_in, desk_start, start_of}
+use Rattle.names.specs.Names.{Start, capital, same_name, names, name, start_in, desk_start, start_of}
 use Rattle.printout.specs.Rows.{Row}
 use Rattle.printout.specs.Text.{letters}
 use Rattle.stream.specs.Commands.{Row as Form, commands, arguments_in, arguments_of}
@@ -119,16 +119,16 @@ commands-named : named_right commands ≡ true
 unfolding named_right begins_command is_command start_of name desk_start same_name capital between
 commands-named = refl
 
-name-begins : (t : ℕ) (ks : List ℕ) (rs : List Form) → arguments_in t rs ≡ some ks → named_right rs ≡ true → start_of (name t) ≡ begun Command t
+name-begins : (t : ℕ) (ks : List ℕ) (rs : List Form) → arguments_in t rs ≡ Some ks → named_right rs ≡ true → start_of (name t) ≡ begun Command t
 unfolding named_right
-name-begins t ks [] e h = absurd (none-ne-some ks e)
+name-begins t ks [] e h = absurd (none-some ks e)
 name-begins t ks (r ∷ rs) e h =
     let x = both (begins_command r.tag (start_of (name r.tag))) (named_right rs) h in
     by_test (eqb t r.tag)
     (λ f. rw (eqb-true t r.tag f) (begins_is r.tag (start_of (name r.tag)) x.0))
     (λ f. name-begins t ks rs (rw f at e) x.1)
 
-pub command_begins : (w : List ℕ) (t : ℕ) (ks : List ℕ) → arguments_of t ≡ some ks → map capital w ≡ name t → start_of w ≡ begun Command t
+pub command_begins : (w : List ℕ) (t : ℕ) (ks : List ℕ) → arguments_of t ≡ Some ks → map capital w ≡ name t → start_of w ≡ begun Command t
 unfolding arguments_of
 command_begins w t ks known e = sym (start-capital w) ∙ ap start_of e ∙ name-begins t ks commands known commands-named
 
@@ -149,13 +149,13 @@ unfolding start_of desk_start same_name capital between
 quit_begins w e = sym (start-capital w) ∙ ap start_of e
 
 is_known : Option (List ℕ) → Bool
-is_known none = false
-is_known (some ks) = true
+is_known None = false
+is_known (Some ks) = true
 
-known_is : (o : Option (List ℕ)) → is_known o ≡ true → (ks : List ℕ) × (o ≡ some ks)
+known_is : (o : Option (List ℕ)) → is_known o ≡ true → (ks : List ℕ) × (o ≡ Some ks)
 unfolding is_known
-known_is none e = absurd (false≢true e)
-known_is (some ks) e = (ks, refl)
+known_is None e = absurd (false≢true e)
+known_is (Some ks) e = (ks, refl)
 
 -- each name in the list is its number's, and a command's
 listed : List Row → Bool

@@ -1,16 +1,14 @@
 -- A command's words, read one by one: what fits says the fields, and words that say the fields fit.
 use Rattle.std.specs.Prelude.{◌≡◌, Bool, cond, length, drop}
 use Rattle.std.proofs.Math.Path.{refl, ap, subst}
-use Rattle.std.proofs.Common.{sym, ◌∙◌, le_of_suc-le-suc, not-suc-le-zero, arith, eqb-true, eq-eqb, ne_eqb}
+use Rattle.std.proofs.Common.{sym, ◌∙◌, arith, eqb-true, eq-eqb}
 use Rattle.std.proofs.Math.Bool.{true, false, true≢false}
 use Rattle.std.proofs.lemmas.Bool.{false≢true}
 use mathlib.Core.List.{List, [], ◌∷◌}
-use Prim.Native.Nat.{ℕ, zero, suc, ◌≤◌, ◌<◌}
+use Prim.Native.Nat.{ℕ, ◌≤◌, ◌<◌}
 use Rattle.std.proofs.Math.Dec.{eqb}
 use Rattle.ground.specs.Search.{by_test}
-use Rattle.ground.specs.Lists.{padded}
-use Rattle.reader.specs.declared.Line.{Line}
-use Rattle.reader.specs.Line.{wrong_line}
+use Rattle.reader.specs.Line.{Line, wrong_line}
 use Rattle.reader.specs.Command.{after, took_value, took_word, read_word, read_words, nothing_else, ended_line}
 use Rattle.stream.specs.declared.Request.{Request}
 use Rattle.stream.specs.Fields.{Bytes}
@@ -19,9 +17,8 @@ use Rattle.stream.specs.RequestLaws.{Sound}
 use Rattle.stream.proofs.RequestLaws.{own, other, stays_sound, no_data}
 use Rattle.stream.specs.GrammarLaws.{ascending}
 use Rattle.stream.proofs.GrammarLaws.{neither, above, up_to, later, not-among}
-use Rattle.values.specs.declared.Value.{Value}
 use Rattle.values.specs.Sources.{meant}
-use Rattle.values.specs.Values.{wrong}
+use Rattle.values.specs.Values.{Value, wrong}
 use Rattle.values.specs.Fields.{value_of, value_bytes, with_value}
 use Rattle.words.specs.declared.Expected.TheVariants.{NothingMore}
 use Rattle.words.specs.declared.Word.{Word}
@@ -62,7 +59,7 @@ module _ (l kept ends : List ℕ) where
   module _ (r : Line) (k : ℕ) (low : 0x80 < k) (fit : r.fits ≡ true) where
     word_read : read_word l kept ends r k ≡ cond (value_as k (word_at l r.at)).fits (taken r k (word_at l r.at)) (wrong_line (value_as k (word_at l r.at)).at (value_as k (word_at l r.at)).expected)
     unfolding read_word took_word took_value
-    word_read = rw (ne_eqb k 0 (λ e. omega arith), fit)
+    word_read = rw fit
 
     word-taken : (v : Word) → word_at l r.at ≡ v → (value_as k v).fits ≡ true → read_word l kept ends r k ≡ taken r k v
     word-taken v e f = word_read ∙ rw (e, f)
@@ -123,18 +120,10 @@ module _ (l kept ends : List ℕ) where
   stuck : (ks : List ℕ) (r : Line) → r.fits ≡ false → (read_words l kept ends r ks).fits ≡ false
   unfolding read_words read_word
   stuck [] r h = h
-  stuck (k ∷ ks) r h = stuck ks (read_word l kept ends r k) (by_test (eqb k 0) (λ e. rw (e, h)) (λ e. rw (e, h)))
+  stuck (k ∷ ks) r h = stuck ks (read_word l kept ends r k) (rw h)
 
   fit_before : (ks : List ℕ) (r : Line) → (read_words l kept ends r ks).fits ≡ true → r.fits ≡ true
   fit_before ks r h = by_test r.fits (λ e. e) (λ e. absurd (false≢true (sym (stuck ks r e) ∙ h)))
-
-  -- zeros are passed over
-  pub words-padded : (r : Line) (n : ℕ) (ks : List ℕ) → length ks ≤ n → read_words l kept ends r (padded n ks) ≡ read_words l kept ends r ks
-  unfolding read_words read_word padded
-  words-padded r zero [] h = refl
-  words-padded r zero (k ∷ ks) h = absurd (not-suc-le-zero h)
-  words-padded r (suc n) [] h = words-padded r n [] (omega arith)
-  words-padded r (suc n) (k ∷ ks) h = words-padded (read_word l kept ends r k) n ks (le_of_suc-le-suc h)
 
   -- ---- what fits says the fields
 

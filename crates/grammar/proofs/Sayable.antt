@@ -4,7 +4,8 @@ use Rattle.std.proofs.Math.Path.{refl, subst}
 use Rattle.std.proofs.Common.{sym, ap, ◌∙◌, inl, inr, arith, length-append, get_or-append-add, eqb-true, eq-eqb, ne_eqb, leb-true, ltb-true, ltb-false}
 use Rattle.std.proofs.Math.Bool.{true, cond}
 use Rattle.std.proofs.lemmas.Bool.{false≢true}
-use Rattle.std.proofs.Math.Option.{some, none-ne-some}
+use Rattle.std.specs.Prelude.{Some}
+use Rattle.std.proofs.lemmas.Option.{none-some}
 use mathlib.Core.List.{List, [], ◌∷◌, ◌++◌, map, head-eq_of_cons-eq}
 use Prim.Native.Char.{code}
 use Rattle.ground.specs.Search.{by_test}
@@ -166,9 +167,9 @@ pub commands_in_capitals : in_capitals commands ≡ true
 unfolding in_capitals formed every is_in blank_letter name same_name capital between
 commands_in_capitals = refl
 
-pub name_good : (t : ℕ) (ks : List ℕ) (rs : List Form) → arguments_in t rs ≡ some ks → in_capitals rs ≡ true → (formed (plain (name t)) ≡ true) × (map capital (name t) ≡ name t) × (length (name t) ≤ 6)
+pub name_good : (t : ℕ) (ks : List ℕ) (rs : List Form) → arguments_in t rs ≡ Some ks → in_capitals rs ≡ true → (formed (plain (name t)) ≡ true) × (map capital (name t) ≡ name t) × (length (name t) ≤ 6)
 unfolding in_capitals
-name_good t ks [] e h = absurd (none-ne-some ks e)
+name_good t ks [] e h = absurd (none-some ks e)
 name_good t ks (r ∷ rs) e h =
     let x = both (formed (plain (name r.tag))) _ h in
     let y = both (same_name (name r.tag) (name r.tag)) _ x.1 in
@@ -203,7 +204,7 @@ unfolding written arguments_of every
 written_says kept ends t v a d h bytes function short =
     let ks = h.arguments in
     let s : Sayable ks a d = record { bytes = field-bytes a d ks (subst (Below 256) h.value bytes); function = function; short = short } in
-    let known : arguments_of a.tag ≡ some ks = ap arguments_of h.tagged ∙ h.known in
+    let known : arguments_of a.tag ≡ Some ks = ap arguments_of h.tagged ∙ h.known in
     let n = name_good a.tag ks commands known commands_in_capitals in
     let sound : Sound a.tag a = record { tagged = refl; issued = h.issued; partied = h.partied; eight = h.eight } in
     let x = spaced_says kept ends a.tag ks a d sound s 0x80 ks (omega arith) (arguments_ordered t ks h.known).0 (λ k y. y) in

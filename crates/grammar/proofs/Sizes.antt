@@ -1,7 +1,8 @@
 -- How long a command's fields can be, one after the other: only the data may be long, they come last, and a command with data has at most three fields.
 use Rattle.std.specs.Prelude.{◌≡◌, refl, Bool, true, false, cond, ◌⊎◌, List, [], ◌∷◌, ℕ, suc, ◌+◌, ◌*◌, ◌≤◌, ◌<◌, eqb, leb, length}
 use Rattle.std.proofs.Common.{sym, ap, ◌∙◌, subst, inl, inr, mul-suc, arith, eqb-true, leb-true}
-use Rattle.std.proofs.Math.Option.{some, none-ne-some}
+use Rattle.std.specs.Prelude.{Some}
+use Rattle.std.proofs.lemmas.Option.{none-some}
 use Rattle.std.proofs.lemmas.Bool.{eqb-false}
 use Rattle.ground.specs.Search.{by_test}
 use Rattle.stream.specs.declared.Request.{Request}
@@ -17,9 +18,9 @@ commands-few : few commands ≡ true
 unfolding few among
 commands-few = refl
 
-row-few : (t : ℕ) (rs : List Form) (ks : List ℕ) → few rs ≡ true → arguments_in t rs ≡ some ks → among 0x87 ks ≡ true → length ks ≤ 3
+row-few : (t : ℕ) (rs : List Form) (ks : List ℕ) → few rs ≡ true → arguments_in t rs ≡ Some ks → among 0x87 ks ≡ true → length ks ≤ 3
 unfolding few
-row-few t [] ks h e x = absurd (none-ne-some ks e)
+row-few t [] ks h e x = absurd (none-some ks e)
 row-few t (r ∷ rs) ks h e x =
     let y = both _ (few rs) h in
     by_test (eqb t r.tag)
@@ -29,7 +30,7 @@ row-few t (r ∷ rs) ks h e x =
     (λ q. row-few t rs ks y.1 (rw q at e) x)
 
 -- a command has no data, or at most three fields
-pub with_data : (t : ℕ) (ks : List ℕ) (a : Request) (d : Bytes) → arguments_of t ≡ some ks → ((k : ℕ) → among k ks ≡ false → argument k a d ≡ argument k (blank t) [])
+pub with_data : (t : ℕ) (ks : List ℕ) (a : Request) (d : Bytes) → arguments_of t ≡ Some ks → ((k : ℕ) → among k ks ≡ false → argument k a d ≡ argument k (blank t) [])
     → (length d ≡ 0) ⊎ (length ks ≤ 3)
 unfolding arguments_of argument
 with_data t ks a d known absent =

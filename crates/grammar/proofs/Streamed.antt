@@ -3,7 +3,7 @@ use Rattle.std.specs.Prelude.{◌≡◌, refl, true, ◌⊎◌, ℕ, ◌+◌, �
 use Rattle.std.proofs.Math.Path.{ap}
 use Rattle.std.proofs.lemmas.Bool.{false≢true}
 use Rattle.std.proofs.Common.{inl, inr, arith, length-append, eqb-true}
-use Rattle.std.proofs.Math.Option.{some}
+use Rattle.std.specs.Prelude.{Some}
 use mathlib.Core.List.{List, [], ◌∷◌}
 use Rattle.std.proofs.Math.ListN.{length}
 use Rattle.ground.specs.Search.{by_test}
@@ -25,7 +25,7 @@ use Rattle.grammar.specs.Says.{Each, Commands}
 use Rattle.grammar.proofs.Sizes.{with_data, all_length}
 
 -- 11 bytes for each field with its header, and the data
-value_length : (t : ℕ) (ks : List ℕ) (a : Request) (d : Bytes) → Sound t a → arguments_of t ≡ some ks → length (spelt ks a d) ≤ 11 * length ks + length d
+value_length : (t : ℕ) (ks : List ℕ) (a : Request) (d : Bytes) → Sound t a → arguments_of t ≡ Some ks → length (spelt ks a d) ≤ 11 * length ks + length d
 unfolding spelt argument
 value_length t ks a d sound known =
     all_length (λ (k : ℕ). length (field k (argument k a d))) (λ (l : List ℕ). length (spelt l a d)) 11 (length d) refl

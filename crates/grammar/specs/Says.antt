@@ -1,6 +1,6 @@
 -- What a line says, written without the reader. `kept` is the room for the answers' bytes, filled from its start, and `ends` says where each answer's end there.
 use Rattle.std.specs.Prelude.{◌≡◌, false, List, [], ◌∷◌, ◌++◌, map, ℕ, ◌<◌, length}
-use Rattle.std.proofs.Math.Option.{some}
+use Rattle.std.specs.Prelude.{Some}
 use Rattle.names.specs.declared.Says.{Says}
 use Rattle.names.specs.declared.Says.TheVariants.{Nothing, Command, Raw, Help, Who, Quit}
 use Rattle.names.specs.Names.{capital, name}
@@ -27,7 +27,7 @@ pub record Commands (kept ends l : List ℕ) (a : Request) (d : Bytes) : Type 0 
   pub words : List Piece
   pub line : Lines (plain first ∷ words) l
   pub arguments : List ℕ
-  pub known : arguments_of a.tag ≡ some arguments
+  pub known : arguments_of a.tag ≡ Some arguments
   pub named : map capital first ≡ name a.tag
   pub fields : Each kept ends arguments words a d
   pub sound : Sound a.tag a

@@ -1,18 +1,16 @@
 -- A command: one word for each field, and nothing else.
-use Rattle.std.specs.Prelude.{◌≡◌, true, cond, List, [], ◌∷◌, ℕ, ◌+◌, ◌-◌, ◌≤◌, ◌<◌, eqb, ltb, length, get_or, drop}
-use Rattle.std.proofs.Common.{add-one, drop_of_length-le, drop-cons}
+use Rattle.std.specs.Prelude.{true, cond, List, [], ◌∷◌, ℕ, ◌+◌, ◌-◌, eqb, ltb, length, unwrap_or}
 use Rattle.names.specs.declared.Says.TheVariants.{Command}
-use Rattle.stream.specs.Commands.{form_of}
+use Rattle.stream.specs.Commands.{arguments_of}
 use Rattle.values.specs.declared.Origin.TheVariants.{Letters}
-use Rattle.values.specs.declared.Value.{Value}
+use Rattle.values.specs.Values.{Value}
 use Rattle.values.specs.Sources.{source}
 use Rattle.values.specs.Fields.{value_of, with_value}
 use Rattle.words.specs.declared.Expected.TheVariants.{NothingMore}
 use Rattle.words.specs.declared.Word.{Word}
 use Rattle.words.specs.declared.Word.TheVariants.{PlainWord, TextWord, Broken, NoWord}
 use Rattle.words.specs.Split.{word_at}
-use Rattle.reader.specs.declared.Line.{Line}
-use Rattle.reader.specs.Line.{wrong_line, so_far}
+use Rattle.reader.specs.Line.{Line, wrong_line, so_far}
 
 -- where a line of n letters goes on after a word
 unfoldable pub after : ℕ → Word → ℕ
@@ -31,7 +29,7 @@ unfoldable pub took_word : List ℕ → List ℕ → List ℕ → Line → ℕ �
 took_word l kept ends r k w = took_value l kept r k (after (length l) w) (value_of k l (length kept) ends w)
 
 unfoldable pub read_word : List ℕ → List ℕ → List ℕ → Line → ℕ → Line
-read_word l kept ends r k = cond (eqb k 0) r (cond r.fits (took_word l kept ends r k (word_at l r.at)) r)
+read_word l kept ends r k = cond r.fits (took_word l kept ends r k (word_at l r.at)) r
 
 unfoldable pub read_words : List ℕ → List ℕ → List ℕ → Line → List ℕ → Line
 read_words l kept ends r [] = r
@@ -48,14 +46,4 @@ unfoldable pub ended_line : List ℕ → Line → Line
 ended_line l r = cond r.fits (nothing_else r (word_at l r.at)) r
 
 unfoldable pub command_line : ℕ → List ℕ → List ℕ → List ℕ → ℕ → Line
-command_line t l kept ends at = ended_line l (read_words l kept ends (so_far Command t at (source Letters 0 0)) (form_of t).arguments)
-
--- ---- one word more, for a loop
-
-pub words_step : (l kept ends : List ℕ) (r : Line) (ks : List ℕ) (i : ℕ) → i < length ks → read_words l kept ends r (drop i ks) ≡ read_words l kept ends (read_word l kept ends r (get_or ks i 0)) (drop (i + 1) ks)
-unfolding read_words
-words_step l kept ends r ks i h = rw (add-one, drop-cons ks i 0 h)
-
-pub words_end : (l kept ends : List ℕ) (r : Line) (ks : List ℕ) (i : ℕ) → length ks ≤ i → read_words l kept ends r (drop i ks) ≡ r
-unfolding read_words
-words_end l kept ends r ks i h = rw drop_of_length-le
+command_line t l kept ends at = ended_line l (read_words l kept ends (so_far Command t at (source Letters 0 0)) (unwrap_or (arguments_of t) []))

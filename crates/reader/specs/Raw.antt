@@ -1,6 +1,5 @@
 -- Raw bytes: "the first word is `!`, and each word after it, of which there is at least one, is plain: hex digits, an even number of them".
-use Rattle.std.specs.Prelude.{◌≡◌, refl, cond, List, ℕ, zero, suc, ◌-◌, ◌%◌, ◌<◌, eqb, ltb, length}
-use Rattle.std.proofs.Common.{arith}
+use Rattle.std.specs.Prelude.{cond, List, ℕ, zero, suc, ◌-◌, ◌%◌, eqb, ltb, length}
 use Rattle.names.specs.declared.Says.TheVariants.{Raw}
 use Rattle.values.specs.declared.Origin.TheVariants.{HexWords}
 use Rattle.values.specs.Sources.{source}
@@ -10,8 +9,7 @@ use Rattle.words.specs.declared.Word.{Word}
 use Rattle.words.specs.declared.Word.TheVariants.{PlainWord, TextWord, Broken, NoWord}
 use Rattle.words.specs.Letters.{run_end}
 use Rattle.words.specs.Split.{word_at}
-use Rattle.reader.specs.declared.Line.{Line}
-use Rattle.reader.specs.Line.{wrong_line, so_far}
+use Rattle.reader.specs.Line.{Line, wrong_line, so_far}
 
 -- a plain word from a to z: "hex digits, an even number of them"
 unfoldable pub raw_hex : List ℕ → Line → ℕ → ℕ → Line
@@ -41,15 +39,3 @@ raw_start l at (NoWord b) = wrong_line b RawBytes
 
 unfoldable pub raw_line : List ℕ → ℕ → Line
 raw_line l at = raw_start l at (word_at l at)
-
--- ---- one word more, for a loop
-
-pub turns_step : (l : List ℕ) (n : ℕ) (r : Line) → 0 < n → raw_turns l (n - 1) (raw_turn l r) ≡ raw_turns l n r
-unfolding raw_turns
-turns_step l zero r h = absurd (omega arith)
-turns_step l (suc n) r h = let e : suc n - 1 ≡ n = omega arith in rw e
-
-pub turns_end : (l : List ℕ) (n : ℕ) (r : Line) → n ≡ 0 → raw_turns l n r ≡ r
-unfolding raw_turns
-turns_end l zero r h = refl
-turns_end l (suc n) r h = absurd (omega arith)

@@ -2,8 +2,7 @@
 use Rattle.std.specs.Prelude.{cond, List, ℕ, ◌-◌}
 use Rattle.names.specs.declared.Says.{Says}
 use Rattle.names.specs.declared.Says.TheVariants.{Nothing, Command, Raw, Help, Who, Quit}
-use Rattle.names.specs.declared.Start.{Start}
-use Rattle.names.specs.Names.{start_of}
+use Rattle.names.specs.Names.{Start, start_of}
 use Rattle.stream.specs.Fields.{part}
 use Rattle.values.specs.declared.Origin.TheVariants.{Letters}
 use Rattle.values.specs.Sources.{source}
@@ -11,8 +10,7 @@ use Rattle.words.specs.declared.Expected.TheVariants.{Name}
 use Rattle.words.specs.declared.Word.{Word}
 use Rattle.words.specs.declared.Word.TheVariants.{PlainWord, TextWord, Broken, NoWord}
 use Rattle.words.specs.Split.{word_at}
-use Rattle.reader.specs.declared.Line.{Line}
-use Rattle.reader.specs.Line.{wrong_line, so_far}
+use Rattle.reader.specs.Line.{Line, wrong_line, so_far}
 use Rattle.reader.specs.Command.{ended_line, command_line}
 use Rattle.reader.specs.Raw.{raw_line}
 

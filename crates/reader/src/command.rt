@@ -1,114 +1,74 @@
 // A command: one word for each field, and nothing else.
-ghost use Rattle.std.specs.Prelude.{◌≡◌, cond, eqb};
-ghost use Rattle.reader.specs.Command.{after, took_value, took_word, read_word, nothing_else, ended_line, command_line};
+ghost use Rattle.std.specs.Prelude.{◌≡◌, Ok};
+ghost use Rattle.reader.specs.Command.{after, read_word, ended_line, command_line};
+ghost use Rattle.reader.specs.Results.{line_as};
 
-use crate::{Line, so_far, wrong_line};
+use crate::Line;
 use names::Says;
 use stream::commands::form_of;
 use values::fields::{value_of, with_value};
-use values::sources::source;
-use values::{Origin, Source, Value};
+use values::{Answers, NO_BYTES};
 use words::split::{quote_before, word_at};
-use words::{Expected, Word};
+use words::{Expected, Word, Wrong};
 
 // Where the line goes on after a word.
+#[tactic(auto, unfolding(crate::specs::Command::after))]
 fn after_word(length: usize, word: Word) -> usize
     ensures { result ≡ after length word }
 {
     match word {
-        Word::PlainWord { start: _, end } => end,
-        Word::TextWord { start: _, end } => { if end < length { end + 1 } else { length } }
-        Word::Broken { at: _, expected: _ } => length,
+        Word::PlainWord { end, .. } => end,
+        Word::TextWord { end, .. } => { if end < length { end + 1 } else { length } }
+        Word::Broken { .. } => length,
         Word::NoWord { at } => at,
     }
 }
 
-// The data, field 87, once its word is read.
-fn data_among(field: u8, read: Source, before: Source) -> Source
-    ensures { result ≡ cond (eqb field 0x87) read before }
+// The line with one field more, if its next word says it.
+#[tactic(auto, unfolding(crate::specs::Command::read_word, crate::specs::Command::took_word, crate::specs::Command::took_value, values::specs::Values::fitting, values::specs::Values::wrong))]
+fn read_word(line: &[u8], answers: Answers, r: Line, field: u8) -> Result<Line, Wrong>
+    ensures { line_as result ≡ read_word line.now answers.entry.kept.now answers.entry.ends.now (line_as (Ok r)) field }
 {
-    if field == 0x87 { read } else { before }
+    let word = word_at(line, r.at);
+    let value = value_of(field, line, answers, word)?;
+    let asked = with_value(field, value, line, answers.kept, r.asked);
+    // Field 87 is the data.
+    let bytes = if field == 0x87 { value.bytes } else { r.bytes };
+    Ok(Line {
+        at: after_word(line.len(), word),
+        says: r.says,
+        asked,
+        bytes,
+    })
 }
 
-// The line with one field more, if the word says it.
-fn take_value(line: &[u8], kept: &[u8], r: Line, field: u8, next: usize, value: Value) -> Line
-    ensures { result ≡ took_value line.now kept.now r field next value }
+// The line, if no word follows.
+#[tactic(auto, unfolding(crate::specs::Command::ended_line, crate::specs::Command::nothing_else))]
+pub fn end_line(line: &[u8], r: Line) -> Result<Line, Wrong>
+    ensures { line_as result ≡ ended_line line.now (line_as (Ok r)) }
 {
-    if value.fits {
-        let asked = with_value(field, value, line, kept, r.asked);
-        let bytes = data_among(field, value.bytes, r.bytes);
-        let says = r.says;
-        Line {
-            fits: true,
-            at: next,
+    match word_at(line, r.at) {
+        Word::PlainWord { start, .. } => Err(Wrong {
+            at: start,
             expected: Expected::NothingMore,
-            says,
-            asked,
-            bytes,
-        }
-    } else {
-        let expected = value.expected;
-        wrong_line(value.at, expected)
-    }
-}
-
-fn take_word(line: &[u8], kept: &[u8], ends: &[usize], r: Line, field: u8, word: Word) -> Line
-    ensures { result ≡ took_word line.now kept.now ends.now r field word }
-{
-    take_value(
-        line,
-        kept,
-        r,
-        field,
-        after_word(line.len(), word),
-        value_of(field, line, kept, ends, word),
-    )
-}
-
-fn read_word(line: &[u8], kept: &[u8], ends: &[usize], r: Line, field: u8) -> Line
-    ensures { result ≡ read_word line.now kept.now ends.now r field }
-{
-    if field == 0 {
-        r
-    } else if r.fits {
-        take_word(line, kept, ends, r, field, word_at(line, r.at))
-    } else {
-        r
-    }
-}
-
-fn nothing_else(r: Line, word: Word) -> Line
-    ensures { result ≡ nothing_else r word }
-{
-    match word {
-        Word::PlainWord { start, end: _ } => wrong_line(start, Expected::NothingMore),
-        Word::TextWord { start, end: _ } => wrong_line(quote_before(start), Expected::NothingMore),
-        Word::Broken { at, expected } => wrong_line(at, expected),
-        Word::NoWord { at: _ } => r,
-    }
-}
-
-pub fn end_line(line: &[u8], r: Line) -> Line
-    ensures { result ≡ ended_line line.now r }
-{
-    if r.fits {
-        nothing_else(r, word_at(line, r.at))
-    } else {
-        r
+        }),
+        Word::TextWord { start, .. } => Err(Wrong {
+            at: quote_before(start),
+            expected: Expected::NothingMore,
+        }),
+        Word::Broken { at, expected } => Err(Wrong { at, expected }),
+        Word::NoWord { .. } => Ok(r),
     }
 }
 
 // One word for each field of the command, in ascending tags, and nothing else.
-pub fn command_line(tag: u8, line: &[u8], kept: &[u8], ends: &[usize], at: usize) -> Line
-    ensures { result ≡ command_line tag line.now kept.now ends.now at }
+#[tactic(auto, using(crate::proofs::Steps::word_more, crate::proofs::Steps::word_wrong, crate::proofs::Steps::words_read))]
+pub fn command_line(tag: u8, line: &[u8], answers: Answers, at: usize) -> Result<Line, Wrong>
+    ensures { line_as result ≡ command_line tag line.now answers.entry.kept.now answers.entry.ends.now at }
 {
-    let form = form_of(tag);
-    let fields = form.arguments;
-    let mut r = so_far(Says::Command, tag, at, source(Origin::Letters, 0, 0));
-    let mut i: usize = 0;
-    while i < 5 {
-        r = read_word(line, kept, ends, r, fields[i]);
-        i += 1;
+    let mut r = Line::so_far(Says::Command, tag, at, NO_BYTES);
+    for field in form_of(tag).unwrap_or(&[]) {
+        r = read_word(line, answers, r, *field)?;
     }
     end_line(line, r)
 }

@@ -1,15 +1,8 @@
--- Eight bytes from a page of eight, and a number of one byte.
-use mathlib.Core.Path.{◌≡◌, refl, ap}
-use mathlib.Core.Bool.{false}
-use mathlib.Core.List.{List, [], ◌∷◌}
-use Prim.Native.Nat.{ℕ, ◌%◌, ◌≤◌}
+-- Eight bytes from a page of eight, and numbers of one byte and of four.
+use Rattle.std.proofs.Common.{◌≡◌, refl, ap, false, List, [], ◌∷◌, ℕ, ◌%◌, ◌^◌, ◌≤◌, ◌<◌, ltb, length, replicate, arith, le-ltb}
 use native.Mathlib.Nat.{pow-zero, div-one}
-use native.Mathlib.Omega.{arith}
-use lib.Dec.{ltb}
-use lib.ListN.{length, replicate}
-use borrow.Author.Tests.{le-ltb}
 use Rattle.ground.specs.Lists.{padded}
-use Rattle.ground.specs.Rows.{digits}
+use Rattle.ground.specs.Rows.{row, digits, row-digits}
 use Rattle.printout.specs.Page.{Page, page, letter, entered}
 
 full : (xs : List ℕ) (p : Page) → length p.letters ≤ p.filled → entered xs p ≡ p
@@ -32,3 +25,6 @@ eight_padded (a ∷ b ∷ c ∷ d ∷ e ∷ f ∷ g ∷ h ∷ xs) = ap (λ (p : 
 pub one_byte : (n : ℕ) → digits 256 1 n ≡ n % 256 ∷ []
 unfolding digits
 one_byte n = rw (pow-zero, div-one)
+
+pub four_bytes : (n : ℕ) → n < 2 ^ 32 → row 256 0 (digits 256 4 n) ≡ n
+four_bytes n h = row-digits 256 4 n (omega arith)

@@ -5,13 +5,12 @@ use Rattle.ground.specs.Rows.{digits}
 use Rattle.stream.specs.declared.Request.{Request}
 use Rattle.stream.specs.Commands.{filled}
 use Rattle.values.specs.declared.Origin.TheVariants.{Letters}
-use Rattle.values.specs.declared.Value.{Value}
 use Rattle.words.specs.declared.Expected.{Expected}
 use Rattle.words.specs.declared.Expected.TheVariants.{Identifier, Interchange, Function, Block, Bytes, NothingMore}
 use Rattle.words.specs.declared.Word.{Word}
 use Rattle.words.specs.declared.Word.TheVariants.{PlainWord, TextWord, Broken, NoWord}
 use Rattle.values.specs.Sources.{source, meant}
-use Rattle.values.specs.Values.{wrong, data_of, number_value, function_value, bytes_value}
+use Rattle.values.specs.Values.{Value, wrong, data_of, number_value, function_value, bytes_value}
 
 unfoldable pub expected_for : ℕ → Expected
 expected_for k =

@@ -2,3 +2,4 @@ pub mod Numbers
 pub mod Sources
 pub mod Values
 pub mod Fields
+pub mod Results

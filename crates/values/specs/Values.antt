@@ -4,14 +4,20 @@ use Prim.Native.Char.{code}
 use Rattle.stream.specs.Fields.{part}
 use Rattle.values.specs.declared.Origin.TheVariants.{HexDigits, Letters}
 use Rattle.values.specs.declared.Source.{Source}
-use Rattle.values.specs.declared.Upto.{Upto}
-use Rattle.values.specs.declared.Value.{Value}
 use Rattle.words.specs.declared.Class.TheVariants.{Digit, Hex}
 use Rattle.words.specs.declared.Expected.{Expected}
 use Rattle.words.specs.declared.Expected.TheVariants.{Function, Block, Bytes, FewerBytes, NothingMore}
 use Rattle.words.specs.Letters.{run_end}
-use Rattle.values.specs.Numbers.{decimal_value, up_to}
+use Rattle.values.specs.Numbers.{Upto, decimal_value, up_to}
 use Rattle.values.specs.Sources.{source, answer_source}
+
+-- a word as a field's value, a number or bytes; or where it stops being one
+pub record Value : Type 0 where
+  pub fits : Bool
+  pub at : ℕ
+  pub expected : Expected
+  pub number : ℕ
+  pub bytes : Source
 
 unfoldable pub fitting : ℕ → Source → Value
 fitting n s = record { fits = true; at = 0; expected = NothingMore; number = n; bytes = s }

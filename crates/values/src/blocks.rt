@@ -1,71 +1,87 @@
 // Blocks and data: hex digits, or the bytes of an answer.
 ghost use Rattle.std.specs.Prelude.{◌≡◌, length};
 ghost use Rattle.values.specs.Values.{hex_block, data_of, hex_data, bytes_value};
+ghost use Rattle.values.specs.Results.{value_as};
 
-use crate::answers::answer_value;
-use crate::sources::source;
-use crate::{Origin, Source, Value, fit, wrong};
+use crate::answer::answer_value;
+use crate::{Answers, Origin, Part, Source, Value};
 use words::letters::{letter_at, run_end};
 use words::split::span;
-use words::{Class, Expected};
+use words::{Class, Expected, Wrong};
 
-fn hex_block(line: &[u8], start: usize, end: usize) -> Value
-    ensures { result ≡ hex_block line.now start end }
+#[tactic(auto, unfolding(crate::specs::Values::hex_block))]
+fn hex_block(word: Part) -> Result<Value, Wrong>
+    ensures { value_as result ≡ hex_block word.entry.line.now word.entry.start word.entry.end }
 {
-    let digits = run_end(line, start, Class::Hex);
-    if span(start, digits) < 16 {
-        return wrong(digits, Expected::Block);
+    let digits = run_end(word.line, word.start, Class::Hex);
+    if span(word.start, digits) < 16 {
+        return Err(Wrong {
+            at: digits,
+            expected: Expected::Block,
+        });
     }
-    if span(start, end) == 16 {
-        fit(0, source(Origin::HexDigits, start, end))
+    if span(word.start, word.end) == 16 {
+        Ok(Value::of_bytes(word.source(Origin::HexDigits)))
     } else {
-        wrong(start + 16, Expected::Block)
+        Err(Wrong {
+            at: word.start + 16,
+            expected: Expected::Block,
+        })
     }
 }
 
 // So many bytes from a source, as data: there is a limit.
-pub fn data_of(start: usize, n: usize, from: Source) -> Value
-    ensures { result ≡ data_of start n from }
+#[tactic(auto, unfolding(crate::specs::Values::data_of))]
+pub fn data_of(start: usize, n: usize, from: Source) -> Result<Value, Wrong>
+    ensures { value_as result ≡ data_of start n from }
 {
     if n <= 65500 {
-        fit(0, from)
+        Ok(Value::of_bytes(from))
     } else {
-        wrong(start, Expected::FewerBytes)
+        Err(Wrong {
+            at: start,
+            expected: Expected::FewerBytes,
+        })
     }
 }
 
-fn hex_data(line: &[u8], start: usize, end: usize) -> Value
-    ensures { result ≡ hex_data line.now start end }
+#[tactic(auto, unfolding(crate::specs::Values::hex_data))]
+fn hex_data(word: Part) -> Result<Value, Wrong>
+    ensures { value_as result ≡ hex_data word.entry.line.now word.entry.start word.entry.end }
 {
-    let digits = run_end(line, start, Class::Hex);
-    if digits < end {
-        return wrong(digits, Expected::Bytes);
+    let digits = run_end(word.line, word.start, Class::Hex);
+    if digits < word.end {
+        return Err(Wrong {
+            at: digits,
+            expected: Expected::Bytes,
+        });
     }
-    let n = span(start, end);
+    let n = span(word.start, word.end);
     if n % 2 == 0 {
-        data_of(start, n / 2, source(Origin::HexDigits, start, end))
+        data_of(word.start, n / 2, word.source(Origin::HexDigits))
     } else {
-        wrong(end, Expected::Bytes)
+        Err(Wrong {
+            at: word.end,
+            expected: Expected::Bytes,
+        })
     }
 }
 
 // A block, which has eight bytes, or data.
-pub fn bytes_value(
-    eight: bool,
-    kept: &[u8],
-    ends: &[usize],
-    line: &[u8],
-    start: usize,
-    end: usize,
-) -> Value
-    ensures { result ≡ bytes_value eight (length kept.now) ends.now line.now start end }
+#[tactic(auto, unfolding(crate::specs::Values::bytes_value), using(words::specs::Letters::letter_there))]
+pub fn bytes_value(eight: bool, answers: Answers, word: Part) -> Result<Value, Wrong>
+    ensures { value_as result ≡ bytes_value eight (length answers.entry.kept.now) answers.entry.ends.now word.entry.line.now word.entry.start word.entry.end }
 {
-    if letter_at(line, start) == b'$' {
-        return answer_value(eight, kept, ends, line, start, start + 1, end);
+    if letter_at(word.line, word.start) == b'$' {
+        let digits = Part {
+            start: word.start + 1,
+            ..word
+        };
+        return answer_value(eight, answers, word.start, digits);
     }
     if eight {
-        hex_block(line, start, end)
+        hex_block(word)
     } else {
-        hex_data(line, start, end)
+        hex_data(word)
     }
 }

@@ -1,42 +1,31 @@
 // A key's function: `t`, `r` or `s`.
 ghost use Rattle.std.specs.Prelude.{◌≡◌};
 ghost use Rattle.values.specs.Values.{function_letter, function_value};
+ghost use Rattle.values.specs.Results.{value_as};
 
-use crate::sources::source;
-use crate::{Origin, Value, fit, wrong};
-use words::Expected;
+use crate::{Part, Value};
 use words::letters::letter_at;
 use words::split::span;
+use words::{Expected, Wrong};
 
+#[tactic(auto, unfolding(crate::specs::Values::function_letter))]
 fn is_function(letter: u8) -> bool
     ensures { result ≡ function_letter letter }
 {
-    if letter == b't' {
-        true
-    } else if letter == b'r' {
-        true
-    } else {
-        letter == b's'
-    }
+    matches!(letter, b't' | b'r' | b's')
 }
 
-fn wide(x: u8) -> u32
-    ensures { result ≡ x }
+#[tactic(auto, unfolding(crate::specs::Values::function_value))]
+pub fn function_value(word: Part) -> Result<Value, Wrong>
+    ensures { value_as result ≡ function_value word.entry.line.now word.entry.start word.entry.end }
 {
-    x as u32
-}
-
-pub fn function_value(line: &[u8], start: usize, end: usize) -> Value
-    ensures { result ≡ function_value line.now start end }
-{
-    let letter = letter_at(line, start);
-    if span(start, end) == 1 {
-        if is_function(letter) {
-            fit(wide(letter), source(Origin::Letters, 0, 0))
-        } else {
-            wrong(start, Expected::Function)
-        }
+    let letter = letter_at(word.line, word.start);
+    if span(word.start, word.end) == 1 && is_function(letter) {
+        Ok(Value::numeric(u32::from(letter)))
     } else {
-        wrong(start, Expected::Function)
+        Err(Wrong {
+            at: word.start,
+            expected: Expected::Function,
+        })
     }
 }

@@ -1,23 +1,19 @@
 // Hex digits, two a byte.
 ghost use Rattle.std.specs.Prelude.{◌≡◌, ◌+◌, ◌*◌, ◌<◌};
-ghost use Rattle.printout.specs.Page.{page, entered};
+ghost use Rattle.printout.specs.Inked.{inked};
 ghost use Rattle.values.specs.Sources.{hex_value, unhex};
 
-use printout::page::put;
+use printout::page::Page;
 
+#[tactic(auto, unfolding(crate::specs::Sources::hex_value))]
 fn hex_value(letter: u8) -> u8
-    ensures { (result ≡ hex_value letter) × (result < 16) }
+    ensures value { result ≡ hex_value letter }
+    ensures digit { result < 16 }
 {
-    if letter < b'A' {
-        if b'0' <= letter {
-            (letter - b'0') % 16
-        } else {
-            0
-        }
-    } else if letter < b'a' {
-        (letter - 55) % 16
-    } else {
-        (letter - 87) % 16
+    match letter {
+        ..b'A' => letter.saturating_sub(b'0') % 16,
+        b'A'..b'a' => (letter - 55) % 16,
+        b'a'.. => (letter - 87) % 16,
     }
 }
 
@@ -27,14 +23,13 @@ fn hex_byte(high: u8, low: u8) -> u8
     16 * hex_value(high) + hex_value(low)
 }
 
-pub fn put_unhexed(paper: &mut [u8], at: usize, digits: &[u8]) -> usize
-    ensures { page paper.new result ≡ entered (unhex digits.now) (page paper.old at) }
+#[tactic(auto, using(crate::proofs::Bytes::unhex_two, crate::proofs::Bytes::unhex_short))]
+pub fn put_unhexed(page: &mut Page, digits: &[u8])
+    ensures { page.new ≡ inked (unhex digits.now) page.old }
 {
-    let mut to = at;
-    let mut i: usize = 0;
-    while i + 1 < digits.len() {
-        to = put(&mut paper[..], to, hex_byte(digits[i], digits[i + 1]));
-        i += 2;
+    let mut rest = digits;
+    while let [high, low, after @ ..] = rest {
+        page.put(hex_byte(*high, *low));
+        rest = after;
     }
-    to
 }

@@ -2,7 +2,7 @@
 
 #![tactic(auto)]
 
-pub mod answers;
+pub mod answer;
 pub mod blocks;
 pub mod fields;
 pub mod functions;
@@ -10,11 +10,9 @@ pub mod hex;
 pub mod numbers;
 pub mod sources;
 
-ghost use Rattle.std.specs.Prelude.{◌≡◌};
-ghost use Rattle.values.specs.Values.{fitting, wrong};
-
-use crate::sources::source;
-use words::Expected;
+ghost use Rattle.std.specs.Prelude.{◌≡◌, Ok};
+ghost use Rattle.values.specs.Values.{numeric, fitting};
+ghost use Rattle.values.specs.Results.{value_as};
 
 // Where bytes come from: hex digits, the words of raw bytes, or letters of the line; or an answer.
 #[derive(Clone, Copy)]
@@ -32,43 +30,47 @@ pub struct Source {
     pub end: usize,
 }
 
-// A number up to a limit, or that it is above it.
+pub const NO_BYTES: Source = Source {
+    from: Origin::Letters,
+    start: 0,
+    end: 0,
+};
+
+// The answers so far: `kept` is the room for their bytes, filled from its start, and `ends` says where each answer's end there, the first entry being 0.
 #[derive(Clone, Copy)]
-pub struct Upto {
-    pub within: bool,
-    pub number: u32,
+pub struct Answers<'a> {
+    pub kept: &'a [u8],
+    pub ends: &'a [usize],
 }
 
-// A word as a field's value, a number or bytes; or where it stops being one.
+// The letters of a line from start to end.
+#[derive(Clone, Copy)]
+pub struct Part<'a> {
+    pub line: &'a [u8],
+    pub start: usize,
+    pub end: usize,
+}
+
+// A word as a field's value, a number or bytes.
 #[derive(Clone, Copy)]
 pub struct Value {
-    pub fits: bool,
-    pub at: usize,
-    pub expected: Expected,
     pub number: u32,
     pub bytes: Source,
 }
 
-fn wrong(at: usize, expected: Expected) -> Value
-    ensures { result ≡ wrong at expected }
-{
-    Value {
-        fits: false,
-        at,
-        expected,
-        number: 0,
-        bytes: source(Origin::Letters, 0, 0),
+impl Value {
+    fn numeric(number: u32) -> Value
+        ensures { value_as (Ok result) ≡ numeric number }
+    {
+        Value {
+            number,
+            bytes: NO_BYTES,
+        }
     }
-}
 
-fn fit(number: u32, bytes: Source) -> Value
-    ensures { result ≡ fitting number bytes }
-{
-    Value {
-        fits: true,
-        at: 0,
-        expected: Expected::NothingMore,
-        number,
-        bytes,
+    fn of_bytes(bytes: Source) -> Value
+        ensures { value_as (Ok result) ≡ fitting 0 bytes }
+    {
+        Value { number: 0, bytes }
     }
 }

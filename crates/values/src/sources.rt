@@ -1,12 +1,12 @@
 // Where bytes come from, and the bytes themselves put onto a page.
 ghost use Rattle.std.specs.Prelude.{◌≡◌, length};
-ghost use Rattle.printout.specs.Page.{page, entered};
+ghost use Rattle.printout.specs.Inked.{inked};
 ghost use Rattle.stream.specs.Fields.{part};
-ghost use Rattle.values.specs.Sources.{word_bytes, raw_next, raw_from, meant};
+ghost use Rattle.values.specs.Sources.{raw_from, meant};
 
 use crate::hex::put_unhexed;
-use crate::{Origin, Source};
-use printout::page::put_all;
+use crate::{Origin, Part, Source};
+use printout::page::Page;
 use words::Word;
 use words::split::word_at;
 
@@ -14,80 +14,54 @@ use words::split::word_at;
 pub fn part_of(s: &[u8], start: usize, end: usize) -> &[u8]
     ensures { result.now ≡ part start end s.now }
 {
-    if s.len() < end {
-        if start <= s.len() {
-            &s[start..]
-        } else {
-            &s[..0]
+    let end = end.min(s.len());
+    if start <= end { &s[start..end] } else { &[] }
+}
+
+impl<'a> Part<'a> {
+    pub fn letters(self) -> &'a [u8]
+        ensures { result.now ≡ part self.entry.start self.entry.end self.entry.line.now }
+    {
+        part_of(self.line, self.start, self.end)
+    }
+
+    pub fn source(self, from: Origin) -> Source
+        ensures { result ≡ record { from = from; start = self.entry.start; end = self.entry.end } }
+    {
+        Source {
+            from,
+            start: self.start,
+            end: self.end,
         }
-    } else if start <= end {
-        &s[start..end]
-    } else {
-        &s[..0]
-    }
-}
-
-// The bytes of a plain word's hex digits; any other word has none.
-fn put_word(paper: &mut [u8], at: usize, line: &[u8], word: Word) -> usize
-    ensures { page paper.new result ≡ entered (word_bytes line.now word) (page paper.old at) }
-{
-    match word {
-        Word::PlainWord { start, end } => put_unhexed(
-            &mut paper[..],
-            at,
-            part_of(line, start, end),
-        ),
-        Word::TextWord { start: _, end: _ } => at,
-        Word::Broken { at: _, expected: _ } => at,
-        Word::NoWord { at: _ } => at,
-    }
-}
-
-// Where the words of raw bytes go on: after a plain word, or, where there is none, at the line's end.
-fn raw_next(length: usize, word: Word) -> usize
-    ensures { result ≡ raw_next length word }
-{
-    match word {
-        Word::PlainWord { start: _, end } => end,
-        Word::TextWord { start: _, end: _ } => length,
-        Word::Broken { at: _, expected: _ } => length,
-        Word::NoWord { at: _ } => length,
     }
 }
 
 // The bytes of all plain words from there on: a line has at most as many words as letters.
-fn put_raw(paper: &mut [u8], at: usize, line: &[u8], start: usize) -> usize
-    ensures { page paper.new result ≡ entered (raw_from (length line.now) line.now start) (page paper.old at) }
+#[tactic(auto, using(crate::proofs::Bytes::raw_more, crate::proofs::Bytes::raw_none))]
+fn put_raw(page: &mut Page, line: &[u8], start: usize)
+    ensures { page.new ≡ inked (raw_from (length line.now) line.now start) page.old }
 {
-    let mut to = at;
     let mut from = start;
-    let mut turns = line.len();
-    while 0 < turns {
-        let word = word_at(line, from);
-        to = put_word(&mut paper[..], to, line, word);
-        from = raw_next(line.len(), word);
-        turns -= 1;
+    for _ in 0..line.len() {
+        let Word::PlainWord { start, end } = word_at(line, from) else {
+            return;
+        };
+        put_unhexed(page, part_of(line, start, end));
+        from = end;
     }
-    to
 }
 
 // The bytes that a source stands for.
-pub fn put_meant(paper: &mut [u8], at: usize, source: Source, line: &[u8], kept: &[u8]) -> usize
-    ensures { page paper.new result ≡ entered (meant source line.now kept.now) (page paper.old at) }
+#[tactic(auto, unfolding(crate::specs::Sources::meant))]
+pub fn put_meant(page: &mut Page, source: Source, line: &[u8], kept: &[u8])
+    ensures { page.new ≡ inked (meant source line.now kept.now) page.old }
 {
-    let from = source.from;
     let start = source.start;
     let end = source.end;
-    match from {
-        Origin::HexDigits => put_unhexed(&mut paper[..], at, part_of(line, start, end)),
-        Origin::HexWords => put_raw(&mut paper[..], at, line, start),
-        Origin::Letters => put_all(&mut paper[..], at, part_of(line, start, end)),
-        Origin::Answered => put_all(&mut paper[..], at, part_of(kept, start, end)),
+    match source.from {
+        Origin::HexDigits => put_unhexed(page, part_of(line, start, end)),
+        Origin::HexWords => put_raw(page, line, start),
+        Origin::Letters => page.put_all(part_of(line, start, end)),
+        Origin::Answered => page.put_all(part_of(kept, start, end)),
     }
-}
-
-pub fn source(from: Origin, start: usize, end: usize) -> Source
-    ensures { result ≡ record { from = from; start = start; end = end } }
-{
-    Source { from, start, end }
 }

@@ -45,6 +45,8 @@ pub front_end : (k : Class) (l : List ℕ) (i : ℕ) → length l ≤ i → i �
 unfolding front
 front_end k l i h = rw drop_of_length-le (omega arith)
 
+pub ruleset front_steps = (front-on, front_stop, front_end)
+
 -- a run ends within the line
 front-within : (k : Class) (l : List ℕ) → front k l ≤ length l
 unfolding front

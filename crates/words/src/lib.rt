@@ -39,3 +39,10 @@ pub enum Expected {
     SpaceAfterQuote,
     NothingMore,
 }
+
+// Where a line stops being one, and what was expected there.
+#[derive(Clone, Copy)]
+pub struct Wrong {
+    pub at: usize,
+    pub expected: Expected,
+}

@@ -6,6 +6,7 @@ use crate::letters::run_end;
 use crate::{Class, Expected, Word};
 
 // Whether a blank letter, `#` or the line's end stands there.
+#[tactic(auto, unfolding(crate::specs::Split::stops))]
 fn stops_at(line: &[u8], at: usize) -> bool
     ensures { result ≡ stops line.now at }
 {
@@ -13,6 +14,7 @@ fn stops_at(line: &[u8], at: usize) -> bool
 }
 
 // The text whose letters start there.
+#[tactic(auto, unfolding(crate::specs::Split::text_at))]
 fn text_at(line: &[u8], start: usize) -> Word
     ensures { result ≡ text_at line.now start }
 {
@@ -32,25 +34,22 @@ fn text_at(line: &[u8], start: usize) -> Word
     }
 }
 
+#[tactic(auto, unfolding(crate::specs::Split::starts_at))]
 fn starts_at(line: &[u8], start: usize) -> Word
     ensures { result ≡ starts_at line.now start }
 {
-    if line.len() <= start {
-        return Word::NoWord { at: start };
-    }
-    if line[start] == b'#' {
-        return Word::NoWord { at: start };
-    }
-    if line[start] == b'"' {
-        return text_at(line, start + 1);
-    }
-    Word::PlainWord {
-        start,
-        end: run_end(line, start, Class::Plain),
+    match line.get(start) {
+        None | Some(b'#') => Word::NoWord { at: start },
+        Some(b'"') => text_at(line, start + 1),
+        Some(_) => Word::PlainWord {
+            start,
+            end: run_end(line, start, Class::Plain),
+        },
     }
 }
 
 // The next word from there on.
+#[tactic(auto, unfolding(crate::specs::Split::word_at))]
 pub fn word_at(line: &[u8], at: usize) -> Word
     ensures { result ≡ word_at line.now at }
 {
@@ -61,12 +60,12 @@ pub fn word_at(line: &[u8], at: usize) -> Word
 pub fn span(start: usize, end: usize) -> usize
     ensures { result ≡ end - start }
 {
-    if start <= end { end - start } else { 0 }
+    end.saturating_sub(start)
 }
 
 // Where the quote stands before the letters of a text.
 pub fn quote_before(start: usize) -> usize
     ensures { result ≡ start - 1 }
 {
-    span(1, start)
+    start.saturating_sub(1)
 }

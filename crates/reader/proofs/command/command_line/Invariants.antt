@@ -1,11 +1,9 @@
-use mathlib.Core.Path.{◌≡◌}
-use Prim.Native.Nat.{◌-◌, ◌≤◌}
-use lib.ListN.{length, drop}
-use Rattle.reader.specs.Command.{read_words}
+use Rattle.std.proofs.Common.{◌≡◌, drop, Ok}
+use Rattle.reader.specs.Command.{read_words, ended_line, command_line}
+use Rattle.reader.specs.Results.{line_as}
 use Rattle.reader.proofs.command.command_line.Given as goal
 
-abbrev pub invariant-loop-i : goal.invariant-loop-i
-invariant-loop-i l = (length l.fields ≡ 5) × (l.i ≤ 5) × (read_words l.line l.kept l.ends l.r (drop l.i l.fields) ≡ read_words l.line l.kept l.ends l.initial.r l.fields)
-
-abbrev pub decreases-loop-i : goal.decreases-loop-i
-decreases-loop-i l = 5 - l.i
+abbrev pub invariant-loop-field : goal.invariant-loop-field
+invariant-loop-field l =
+    ended_line l.line (read_words l.line l.answers.kept.now l.answers.ends.now (line_as (Ok l.r)) (drop l.field-index l.field-items))
+    ≡ command_line l.fn.tag l.line l.answers.kept.now l.answers.ends.now l.fn.at
