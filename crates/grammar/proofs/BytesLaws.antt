@@ -18,10 +18,9 @@ use Rattle.stream.specs.Fields.{part, part_length}
 use Rattle.stream.proofs.FieldLaws.{part_rest}
 use Rattle.values.specs.declared.Origin.TheVariants.{HexDigits, Answered as FromAnswer}
 use Rattle.values.specs.declared.Source.{Source}
-use Rattle.values.specs.declared.Value.{Value}
 use Rattle.values.specs.Numbers.{decimal_value, up_to, above_limit, within_limit}
 use Rattle.values.specs.Sources.{unhex, meant, source, answer_source}
-use Rattle.values.specs.Values.{fitting, wrong, hex_block, data_of, hex_data, answer_block, answer_data, answer_for, expected_bytes, answer_found, hex_for, answer_value, bytes_value}
+use Rattle.values.specs.Values.{Value, fitting, wrong, hex_block, data_of, hex_data, answer_block, answer_data, answer_for, expected_bytes, answer_found, hex_for, answer_value, bytes_value}
 use Rattle.words.specs.declared.Class.TheVariants.{Digit, Hex}
 use Rattle.words.specs.declared.Expected.TheVariants.{Bytes as SomeBytes}
 use Rattle.words.specs.Letters.{between, is_in, front}

@@ -14,8 +14,7 @@ use Rattle.names.specs.declared.Says.{Says}
 use Rattle.names.specs.declared.Says.TheVariants.{Nothing, Command, Raw, Help, Who, Quit}
 use Rattle.names.specs.Names.{start_of}
 use Rattle.printout.specs.Text.{letters}
-use Rattle.reader.specs.declared.Line.{Line}
-use Rattle.reader.specs.Line.{wrong_line, so_far}
+use Rattle.reader.specs.Line.{Line, wrong_line, so_far}
 use Rattle.reader.specs.Command.{after, took_value, took_word, read_word, read_words, nothing_else, ended_line, command_line}
 use Rattle.reader.specs.Raw.{raw_hex, raw_word, raw_turn, raw_turns, raw_start, raw_line}
 use Rattle.reader.specs.Reader.{alone_line, says_line, started_line, first_word, read_line}
@@ -23,10 +22,9 @@ use Rattle.stream.specs.Commands.{arguments_of}
 use Rattle.std.specs.Prelude.{unwrap_or}
 use Rattle.stream.specs.Fields.{part}
 use Rattle.values.specs.declared.Source.{Source}
-use Rattle.values.specs.declared.Value.{Value}
 use Rattle.values.specs.Numbers.{decimal_value, up_to}
 use Rattle.values.specs.Sources.{answer_source}
-use Rattle.values.specs.Values.{fitting, wrong, number_found, number_value, function_letter, function_value, hex_block, data_of, hex_data, hex_for, answer_block, answer_data, answer_for, expected_bytes, answer_found, answer_value, bytes_value}
+use Rattle.values.specs.Values.{Value, fitting, wrong, number_found, number_value, function_letter, function_value, hex_block, data_of, hex_data, hex_for, answer_block, answer_data, answer_for, expected_bytes, answer_found, answer_value, bytes_value}
 use Rattle.values.specs.Fields.{expected_for, plain_value, text_value, value_of}
 use Rattle.words.specs.declared.Class.TheVariants.{Blank, Plain, Text, Digit, Hex}
 use Rattle.words.specs.declared.Expected.{Expected}

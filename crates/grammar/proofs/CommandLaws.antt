@@ -4,8 +4,7 @@ use Rattle.std.proofs.Math.Path.{refl, sym}
 use Rattle.std.proofs.Common.{ap, ◌∙◌, arith}
 use Rattle.std.specs.Prelude.{Some}
 use Rattle.names.specs.declared.Says.TheVariants.{Command}
-use Rattle.reader.specs.declared.Line.{Line}
-use Rattle.reader.specs.Line.{so_far}
+use Rattle.reader.specs.Line.{Line, so_far}
 use Rattle.reader.specs.Command.{read_words, ended_line, command_line}
 use Rattle.stream.specs.declared.Request.{Request}
 use Rattle.stream.specs.Fields.{Bytes}

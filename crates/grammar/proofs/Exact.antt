@@ -9,11 +9,9 @@ use Rattle.std.proofs.Math.ListN.{length}
 use Rattle.ground.specs.Search.{by_test}
 use Rattle.names.specs.declared.Says.{Says}
 use Rattle.names.specs.declared.Says.TheVariants.{Nothing, Command, Raw, Help, Who, Quit}
-use Rattle.names.specs.declared.Start.{Start}
-use Rattle.names.specs.Names.{capital, name, start_of}
+use Rattle.names.specs.Names.{Start, capital, name, start_of}
 use Rattle.printout.specs.Text.{letters}
-use Rattle.reader.specs.declared.Line.{Line}
-use Rattle.reader.specs.Line.{wrong_line, so_far}
+use Rattle.reader.specs.Line.{Line, wrong_line, so_far}
 use Rattle.reader.specs.Command.{command_line}
 use Rattle.reader.specs.Raw.{raw_line}
 use Rattle.reader.specs.Reader.{alone_line, says_line, started_line, first_word, read_line}

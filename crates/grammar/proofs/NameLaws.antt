@@ -10,8 +10,7 @@ use Prim.Native.Char.{code}
 use Rattle.ground.specs.Search.{by_test}
 use Rattle.names.specs.declared.Says.{Says}
 use Rattle.names.specs.declared.Says.TheVariants.{Nothing, Command, Raw, Help, Who, Quit}
-use Rattle.names.specs.declared.Start.{Start}
-use Rattle.names.specs.Names.{capital, same_name, names, name, start_in, desk_start, start_of}
+use Rattle.names.specs.Names.{Start, capital, same_name, names, name, start_in, desk_start, start_of}
 use Rattle.printout.specs.Rows.{Row}
 use Rattle.printout.specs.Text.{letters}
 use Rattle.stream.specs.Commands.{Row as Form, commands, arguments_in, arguments_of}

@@ -11,9 +11,8 @@ use borrow.Author.Tests.{eqb-true, eq-eqb, ne_eqb, leb-true, leb-false}
 use Rattle.ground.specs.Search.{by_test}
 use Rattle.ground.specs.Rows.{digits}
 use Rattle.printout.specs.Text.{letters}
-use Rattle.values.specs.declared.Value.{Value}
 use Rattle.values.specs.Numbers.{decimal_value, up_to, above_limit, within_limit}
-use Rattle.values.specs.Values.{fitting, wrong, numeric, number_found, number_value, function_letter, function_value}
+use Rattle.values.specs.Values.{Value, fitting, wrong, numeric, number_found, number_value, function_letter, function_value}
 use Rattle.words.specs.declared.Class.{Class}
 use Rattle.words.specs.declared.Class.TheVariants.{Digit}
 use Rattle.words.specs.declared.Expected.{Expected}

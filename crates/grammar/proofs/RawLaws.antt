@@ -13,8 +13,7 @@ use borrow.Author.Tests.{eqb-true, eq-eqb}
 use Rattle.ground.specs.Search.{by_test}
 use Rattle.ground.specs.Lists.{none as empty}
 use Rattle.names.specs.declared.Says.TheVariants.{Raw}
-use Rattle.reader.specs.declared.Line.{Line}
-use Rattle.reader.specs.Line.{wrong_line, so_far}
+use Rattle.reader.specs.Line.{Line, wrong_line, so_far}
 use Rattle.reader.specs.Raw.{raw_hex, raw_word, raw_turn, raw_turns, raw_start, raw_line}
 use Rattle.stream.specs.Fields.{Bytes}
 use Rattle.values.specs.declared.Origin.TheVariants.{HexWords}

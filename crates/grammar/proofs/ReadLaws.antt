@@ -8,8 +8,7 @@ use mathlib.Core.List.{List, [], ◌∷◌}
 use Prim.Native.Nat.{ℕ, ◌≤◌, ◌<◌}
 use Rattle.std.proofs.Math.Dec.{eqb}
 use Rattle.ground.specs.Search.{by_test}
-use Rattle.reader.specs.declared.Line.{Line}
-use Rattle.reader.specs.Line.{wrong_line}
+use Rattle.reader.specs.Line.{Line, wrong_line}
 use Rattle.reader.specs.Command.{after, took_value, took_word, read_word, read_words, nothing_else, ended_line}
 use Rattle.stream.specs.declared.Request.{Request}
 use Rattle.stream.specs.Fields.{Bytes}
@@ -18,9 +17,8 @@ use Rattle.stream.specs.RequestLaws.{Sound}
 use Rattle.stream.proofs.RequestLaws.{own, other, stays_sound, no_data}
 use Rattle.stream.specs.GrammarLaws.{ascending}
 use Rattle.stream.proofs.GrammarLaws.{neither, above, up_to, later, not-among}
-use Rattle.values.specs.declared.Value.{Value}
 use Rattle.values.specs.Sources.{meant}
-use Rattle.values.specs.Values.{wrong}
+use Rattle.values.specs.Values.{Value, wrong}
 use Rattle.values.specs.Fields.{value_of, value_bytes, with_value}
 use Rattle.words.specs.declared.Expected.TheVariants.{NothingMore}
 use Rattle.words.specs.declared.Word.{Word}

@@ -5,7 +5,7 @@ use mathlib.Core.List.{List}
 use Prim.Native.Nat.{ℕ, ◌≤◌}
 use Rattle.std.proofs.Math.ListN.{length}
 use Rattle.ground.specs.Lists.{padded}
-use Rattle.values.specs.declared.Value.{Value}
+use Rattle.values.specs.Values.{Value}
 use Rattle.values.specs.Sources.{meant}
 use Rattle.grammar.specs.Means.{Pairs}
 

@@ -4,8 +4,7 @@ use Rattle.std.specs.Prelude.{Some}
 use mathlib.Core.List.{List, map}
 use Rattle.names.specs.declared.Says.{Says}
 use Rattle.names.specs.declared.Says.TheVariants.{Command, Raw, Help, Who, Quit}
-use Rattle.names.specs.declared.Start.{Start}
-use Rattle.names.specs.Names.{capital, name, unknown}
+use Rattle.names.specs.Names.{Start, capital, name, unknown}
 use Rattle.printout.specs.Text.{letters}
 use Rattle.stream.specs.Commands.{arguments_of}
 

@@ -2,7 +2,7 @@
 use Rattle.std.specs.Prelude.{◌≡◌, true}
 use mathlib.Core.List.{List}
 use Prim.Native.Nat.{ℕ}
-use Rattle.values.specs.declared.Value.{Value}
+use Rattle.values.specs.Values.{Value}
 
 -- v fits exactly where the table has bytes, and says these
 pub record Exact (v : Value) (bytes : Value → List ℕ) (R : List ℕ → Type 0) : Type 0 where

@@ -7,7 +7,7 @@ use mathlib.Core.List.{List, [], ◌∷◌, ◌++◌, append-nil, append_assoc}
 use Rattle.ground.specs.Search.{by_test}
 use Rattle.names.specs.declared.Says.{Says}
 use Rattle.names.specs.declared.Says.TheVariants.{Nothing, Command, Raw, Help, Who, Quit}
-use Rattle.reader.specs.declared.Line.{Line}
+use Rattle.reader.specs.Line.{Line}
 use Rattle.reader.specs.Reader.{read_line}
 use Rattle.values.specs.Sources.{meant}
 use Rattle.stream.specs.declared.Request.{Request}

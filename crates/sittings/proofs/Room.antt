@@ -23,8 +23,7 @@ use Rattle.names.specs.declared.Says.{Says}
 use Rattle.names.specs.declared.Says.TheVariants.{Nothing, Command, Raw, Help, Who, Quit}
 use Rattle.names.specs.Names.{names, name}
 use Rattle.values.specs.Sources.{meant}
-use Rattle.reader.specs.declared.Line.{Line}
-use Rattle.reader.specs.Line.{wrong_line}
+use Rattle.reader.specs.Line.{Line, wrong_line}
 use Rattle.reader.specs.Reader.{read_line}
 use Rattle.grammar.specs.Lines.{Piece, plain, text, Lines}
 use Rattle.grammar.specs.Says.{InPairs, Commands, RawBytes, Reads}

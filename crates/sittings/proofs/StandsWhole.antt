@@ -6,7 +6,7 @@ use Prim.Native.Nat.{ℕ, ◌+◌, ◌≤◌}
 use Rattle.std.proofs.Math.ListN.{length}
 use Rattle.stream.specs.Fields.{Bytes}
 use Rattle.printout.specs.Page.{page, entered}
-use Rattle.reader.specs.declared.Line.{Line}
+use Rattle.reader.specs.Line.{Line}
 use Rattle.state.specs.declared.Place.{Place}
 use Rattle.rules.specs.World.{World}
 use Rattle.session.specs.Run.{Answered}
