@@ -28,49 +28,27 @@ fn backwards(group: &[u8], row: usize, key: u64, cipher: u64, published: u64) ->
 fn run(group: &[u8], table: &[u64]) -> Tally
     ensures { result ≡ tallied table.now }
 {
-    let rows = table.len() / 3;
+    let (rows, _) = table.as_chunks::<3>();
     let mut enciphered: u64 = 0;
     let mut deciphered: u64 = 0;
-    let mut i: usize = 0;
-    while i < rows {
+    for (i, &[key, plain, cipher]) in rows.iter().enumerate() {
         let row = i + 1;
-        let key = table[3 * i];
-        let plain = table[3 * i + 1];
-        let cipher = table[3 * i + 2];
         enciphered += forwards(group, row, key, plain, cipher);
         deciphered += backwards(group, row, key, cipher, plain);
-        i += 1;
     }
     let tally = Tally {
         enciphered,
         deciphered,
-        wrong: 2 * (rows as u64) - (enciphered + deciphered),
+        wrong: 2 * (rows.len() as u64) - (enciphered + deciphered),
     };
     line(group, tally);
     tally
 }
 
-// A table is copied into the function that lends it, so each has a function of its own.
-fn initial_permutation() -> Tally {
-    run(b"initial-permutation", &INITIAL_PERMUTATION)
-}
-
-fn key_permutation() -> Tally {
-    run(b"key-permutation", &KEY_PERMUTATION)
-}
-
-fn permutation() -> Tally {
-    run(b"permutation", &PERMUTATION)
-}
-
-fn substitution() -> Tally {
-    run(b"substitution", &SUBSTITUTION)
-}
-
 pub fn all() -> Tally {
-    let a = initial_permutation();
-    let b = key_permutation();
-    let c = permutation();
-    let d = substitution();
+    let a = run(b"initial-permutation", &INITIAL_PERMUTATION);
+    let b = run(b"key-permutation", &KEY_PERMUTATION);
+    let c = run(b"permutation", &PERMUTATION);
+    let d = run(b"substitution", &SUBSTITUTION);
     a.plus(b).plus(c).plus(d)
 }

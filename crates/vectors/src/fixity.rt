@@ -14,8 +14,7 @@ use cipher::keys::{DataKey, Vector};
 fn answered(group: &[u8], key: DataKey, vector: Vector, plain: &[u8], published: u64) -> u64
     ensures { (result ≡ one (valued key.0 vector.0 plain.now).value (bytes published)) × (result ≤ 1) }
 {
-    let f = fixity_of(key, vector, plain);
-    let value = f.value;
+    let value = fixity_of(key, vector, plain).unwrap_or([0; 8]);
     judged(group, 1, &value, &bytes_of(published))
 }
 

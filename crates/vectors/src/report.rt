@@ -11,14 +11,12 @@ fn number(n: u64) {
 }
 
 fn byte(b: u8) {
-    print_hex(1, b as u64, 2);
+    print_hex(1, u64::from(b), 2);
 }
 
 fn bytes(s: &[u8]) {
-    let mut i = 0;
-    while i < s.len() {
-        byte(s[i]);
-        i += 1;
+    for b in s {
+        byte(*b);
     }
 }
 
