@@ -35,7 +35,7 @@ pub fn set_parity(b: [u8; 8]) -> [u8; 8]
     b.map(with_parity)
 }
 
-// The sender's identifier goes into the first four bytes, the receiver's into the last four.
+// The sender's identifier goes into the first four bytes, the receiver's into the last four. A loop is no plainer: each byte has a group of its own.
 pub fn notarize(key: InterchangeKey, sender: u32, receiver: u32) -> NotarizedKey
     ensures { result.0 ≡ notarized key.0 sender receiver }
 {

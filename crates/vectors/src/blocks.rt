@@ -4,25 +4,25 @@ ghost use Rattle.cipher.specs.Bits.{bytes};
 ghost use Rattle.cipher.specs.Cipher.{enciphered, deciphered};
 ghost use Rattle.vectors.specs.Answers.{one, tallied};
 
-use crate::answers::{Tally, judged};
+use crate::answers::{Place, Tally};
 use crate::report::line;
 use crate::sp500_20::{INITIAL_PERMUTATION, KEY_PERMUTATION, PERMUTATION, SUBSTITUTION};
 use cipher::block::{decipher, encipher};
 use cipher::bytes_of;
 use cipher::keys::DataKey;
 
-fn forwards(group: &[u8], row: usize, key: u64, plain: u64, published: u64) -> u64
+fn forwards(place: Place, key: u64, plain: u64, published: u64) -> u64
     ensures { (result ≡ one (enciphered (bytes key) (bytes plain)) (bytes published)) × (result ≤ 1) }
 {
     let answer = encipher(DataKey(bytes_of(key)), bytes_of(plain));
-    judged(group, row, &answer, &bytes_of(published))
+    place.judged(&answer, &bytes_of(published))
 }
 
-fn backwards(group: &[u8], row: usize, key: u64, cipher: u64, published: u64) -> u64
+fn backwards(place: Place, key: u64, cipher: u64, published: u64) -> u64
     ensures { (result ≡ one (deciphered (bytes key) (bytes cipher)) (bytes published)) × (result ≤ 1) }
 {
     let answer = decipher(DataKey(bytes_of(key)), bytes_of(cipher));
-    judged(group, row, &answer, &bytes_of(published))
+    place.judged(&answer, &bytes_of(published))
 }
 
 fn run(group: &[u8], table: &[u64]) -> Tally
@@ -32,9 +32,9 @@ fn run(group: &[u8], table: &[u64]) -> Tally
     let mut enciphered: u64 = 0;
     let mut deciphered: u64 = 0;
     for (i, &[key, plain, cipher]) in rows.iter().enumerate() {
-        let row = i + 1;
-        enciphered += forwards(group, row, key, plain, cipher);
-        deciphered += backwards(group, row, key, cipher, plain);
+        let place = Place { group, row: i + 1 };
+        enciphered += forwards(place, key, plain, cipher);
+        deciphered += backwards(place, key, cipher, plain);
     }
     let tally = Tally {
         enciphered,

@@ -3,7 +3,7 @@ ghost use Rattle.std.specs.Prelude.{◌≡◌, ◌+◌, ◌≤◌, replicate};
 ghost use Rattle.cipher.specs.Cipher.{applied};
 ghost use Rattle.vectors.specs.Answers.{one};
 
-use crate::answers::{Tally, judged};
+use crate::answers::{Place, Tally};
 use crate::fips_81::{CBC, CFB64, ECB, KEY, PLAIN, VECTOR};
 use crate::report::line;
 use cipher::bytes_of;
@@ -11,7 +11,7 @@ use cipher::keys::{DataKey, Vector};
 use cipher::modes::{Mode, apply};
 
 fn answered(
-    group: &[u8],
+    place: Place,
     mode: Mode,
     key: DataKey,
     vector: Vector,
@@ -22,18 +22,19 @@ fn answered(
 {
     let mut out = [0u8; 24];
     _ = apply(mode, key, vector, text, &mut out);
-    judged(group, 1, &out, published)
+    place.judged(&out, published)
 }
 
 fn run(group: &[u8], enciphering: Mode, deciphering: Mode, published: [u64; 3]) -> Tally
     ensures { result.enciphered + result.deciphered + result.wrong ≡ 2 }
 {
+    let place = Place { group, row: 1 };
     let key = DataKey(bytes_of(KEY));
     let vector = Vector(bytes_of(VECTOR));
     let blocks = published.map(|block| bytes_of(block));
     let cipher = blocks.as_flattened();
-    let enciphered = answered(group, enciphering, key, vector, &PLAIN, cipher);
-    let deciphered = answered(group, deciphering, key, vector, cipher, &PLAIN);
+    let enciphered = answered(place, enciphering, key, vector, &PLAIN, cipher);
+    let deciphered = answered(place, deciphering, key, vector, cipher, &PLAIN);
     let tally = Tally {
         enciphered,
         deciphered,
