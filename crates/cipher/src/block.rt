@@ -21,7 +21,7 @@ fn backwards(key: [u8; 8], block: [u8; 8]) -> [u8; 8]
     bytes_of(compute(&keys, word_of(block)))
 }
 
-// Each twice, for the two kinds of key: by document 01 no operation takes one kind where another belongs.
+// Each direction twice, and not generic in the key: by document 01 no operation of the build may take one kind where another belongs.
 
 pub fn encipher(key: DataKey, block: [u8; 8]) -> [u8; 8]
     ensures { result ≡ enciphered key.0 block }

@@ -10,7 +10,7 @@ ghost use Rattle.door.specs.Door.{asked, Moded, moded, Fixed, fixed};
 use cipher::block::{decipher, encipher};
 use cipher::fixity::fixity_of;
 use cipher::keys::{DataKey, Vector};
-use cipher::modes::{Mode, Verdict, apply};
+use cipher::modes::{Misfit, Mode, apply};
 use cipher::{bytes_of, word_of};
 
 #[unsafe(no_mangle)]
@@ -27,34 +27,29 @@ pub extern "C" fn door_decipher(key: u64, block: u64) -> u64
     word_of(decipher(DataKey(bytes_of(key)), bytes_of(block)))
 }
 
-// What a tag asks for.
-#[derive(Clone, Copy)]
-enum Asked {
-    For(Mode),
-    Nothing,
-}
-
-fn asked_by(tag: u8) -> Asked
+// The mode that a tag asks for.
+#[tactic(auto, unfolding(crate::specs::Door::asked))]
+fn asked_by(tag: u8) -> Option<Mode>
     ensures { result ≡ asked tag }
 {
     match tag {
-        0x0A => Asked::For(Mode::Ecbe),
-        0x0B => Asked::For(Mode::Ecbd),
-        0x0C => Asked::For(Mode::Cbce),
-        0x0D => Asked::For(Mode::Cbcd),
-        0x0E => Asked::For(Mode::Cfbe),
-        0x0F => Asked::For(Mode::Cfbd),
-        _ => Asked::Nothing,
+        0x0A => Some(Mode::Ecbe),
+        0x0B => Some(Mode::Ecbd),
+        0x0C => Some(Mode::Cbce),
+        0x0D => Some(Mode::Cbcd),
+        0x0E => Some(Mode::Cfbe),
+        0x0F => Some(Mode::Cfbd),
+        _ => None,
     }
 }
 
-fn number_of(verdict: Verdict) -> u8
-    ensures { result ≡ number verdict }
+#[tactic(auto, unfolding(cipher::specs::Cipher::number))]
+fn number_of(misfit: Misfit) -> u8
+    ensures { result ≡ number (Err misfit) }
 {
-    match verdict {
-        Verdict::Done => 0,
-        Verdict::BadLength => 12,
-        Verdict::NoRoom => 13,
+    match misfit {
+        Misfit::BadLength => 12,
+        Misfit::NoRoom => 13,
     }
 }
 
@@ -64,20 +59,17 @@ fn number_of(verdict: Verdict) -> u8
 pub extern "C" fn door_mode(tag: u8, key: u64, vector: &mut u64, text: &[u8], out: &mut [u8]) -> u8
     ensures { ◌≡◌ {A = Moded} (record { answer = result; vector = vector.new; output = out.new }) (moded (asked tag) key vector.old text.now out.old) }
 {
-    let Asked::For(mode) = asked_by(tag) else {
+    let Some(mode) = asked_by(tag) else {
         return 16;
     };
-    let applied = apply(
-        mode,
-        DataKey(bytes_of(key)),
-        Vector(bytes_of(*vector)),
-        text,
-        out,
-    );
-    let verdict = applied.verdict;
-    let after = applied.vector.0;
-    *vector = word_of(after);
-    number_of(verdict)
+    let v = Vector(bytes_of(*vector));
+    match apply(mode, DataKey(bytes_of(key)), v, text, out) {
+        Ok(after) => {
+            *vector = word_of(after.0);
+            0
+        }
+        Err(misfit) => number_of(misfit),
+    }
 }
 
 // A record of no bytes is refused by 12, and its value is 0.
@@ -85,9 +77,14 @@ pub extern "C" fn door_mode(tag: u8, key: u64, vector: &mut u64, text: &[u8], ou
 pub extern "C" fn door_fixity(key: u64, vector: u64, plain: &[u8], value: &mut u64) -> u8
     ensures { ◌≡◌ {A = Fixed} (record { answer = result; value = value.new }) (fixed (valued (bytes key) (bytes vector) plain.now)) }
 {
-    let f = fixity_of(DataKey(bytes_of(key)), Vector(bytes_of(vector)), plain);
-    let verdict = f.verdict;
-    let last = f.value;
-    *value = word_of(last);
-    number_of(verdict)
+    match fixity_of(DataKey(bytes_of(key)), Vector(bytes_of(vector)), plain) {
+        Ok(last) => {
+            *value = word_of(last);
+            0
+        }
+        Err(misfit) => {
+            *value = 0;
+            number_of(misfit)
+        }
+    }
 }

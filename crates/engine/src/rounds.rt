@@ -17,6 +17,7 @@ fn select(s: &[u8; 64], b: u64) -> u64
     u64::from(s[at as usize])
 }
 
+// A line for each box: a loop over the eight is no plainer, with their entries' bounds to carry through it.
 fn substitute(b: u64) -> u64
     ensures { (result ≡ substituted b) × (result < 2 ^ 32) }
 {

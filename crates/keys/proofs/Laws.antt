@@ -1,34 +1,49 @@
 -- What the functions compute, entry by entry. Setting parity and notarizing leave eight bytes, each with an odd number of ones; setting parity leaves a byte as it
 -- is exactly where it has such a number already; and the parity that a key had plays no part in notarizing.
-use mathlib.Core.Path.{◌≡◌, refl, sym, ap, ap₂, ◌∙◌}
-use mathlib.Core.Bool.{true}
-use mathlib.Core.List.{List, [], ◌∷◌, ◌++◌, map}
-use Prim.Native.Nat.{ℕ, zero, suc, ◌+◌, ◌-◌, ◌*◌, ◌/◌, ◌%◌, ◌^◌, ◌<◌}
-use native.Mathlib.Nat.{div-one, pow-succ', div-div-eq-div-mul}
-use native.Mathlib.Omega.{arith}
-use lib.Bits.{bit_xor, xor_lt}
-use lib.ListN.{length, get_or, length-map}
+use Rattle.std.proofs.Common.{◌≡◌, refl, sym, ap, ap₂, ◌∙◌, true, List, [], ◌∷◌, ◌++◌, map, ℕ, zero, suc, ◌+◌, ◌*◌, ◌/◌, ◌%◌, ◌^◌, ◌<◌, div-one}
+use Rattle.std.proofs.Common.{⊎_elim, eq-zero-or-pos, arith, bit_xor, count_ones, length, get_or, lit<, eqb, eq-eqb, ne_eqb, eqb-true}
+use Rattle.std.proofs.Math.Nat.{pow-succ', div-div-eq-div-mul}
+use Rattle.std.proofs.lemmas.Bool.{eqb-false}
+use Rattle.std.proofs.lemmas.List.{length-map}
+use Rattle.std.proofs.lemmas.Nat.{xor_lt, ones_cat, ones_le_self, zero_from_ones}
+use Rattle.std.specs.Int.{from_bool}
 use Rattle.ground.specs.Rows.{digits, digits_below}
-use lib.Dec.{lit<, eqb}
-use borrow.Author.Tests.{eq-eqb, ne_eqb, eqb-true, eqb-false}
 use Rattle.ground.specs.Search.{by_test}
 use Rattle.ground.specs.Lists.{listed, Below, below_append}
 use Rattle.cipher.specs.Cipher.{Octets}
 use Rattle.keys.specs.Keys.{sum, odd, ones, all_odd, mixed, parity_of, groups, mixed_in, notarized}
 
-pub odd_is : (s : ℕ) → s * 2 + (1 - (s / 64 % 2 + s / 32 % 2 + s / 16 % 2 + s / 8 % 2 + s / 4 % 2 + s / 2 % 2 + s % 2) % 2) ≡ odd s
-unfolding odd digits
-odd_is s =
-    let e : s / 64 % 2 + s / 32 % 2 + s / 16 % 2 + s / 8 % 2 + s / 4 % 2 + s / 2 % 2 + s % 2
-    ≡ sum (s / 64 % 2 ∷ s / 32 % 2 ∷ s / 16 % 2 ∷ s / 8 % 2 ∷ s / 4 % 2 ∷ s / 2 % 2 ∷ s % 2 ∷ []) = omega arith in
-    rw (e, div-one)
+-- ---- the number of ones
 
-pub parity_is : (b : List ℕ) → length b ≡ 8
-    → parity_of b
-    ≡ odd (get_or b 0 0 / 2) ∷ odd (get_or b 1 0 / 2) ∷ odd (get_or b 2 0 / 2) ∷ odd (get_or b 3 0 / 2)
-    ∷ odd (get_or b 4 0 / 2) ∷ odd (get_or b 5 0 / 2) ∷ odd (get_or b 6 0 / 2) ∷ odd (get_or b 7 0 / 2) ∷ []
-unfolding parity_of
-parity_is b h = ap (map (λ x. odd (x / 2))) (listed 8 b h)
+-- the ones of all bits but the last, and the last
+sum_split : (n b : ℕ) → sum (digits 2 (suc n) b) ≡ sum (digits 2 n (b / 2)) + b % 2
+unfolding digits
+sum_split zero b = omega (arith, div-one b)
+sum_split (suc n) b =
+    let e : b / 2 ^ suc n ≡ b / 2 / 2 ^ n = ap (λ (m : ℕ). b / m) (pow-succ' 2 n) ∙ sym (div-div-eq-div-mul b 2 (2 ^ n)) in
+    omega (arith, ap (λ (m : ℕ). m % 2) e, sum_split n b)
+
+-- the library counts the ones of k bits
+counted : (k b : ℕ) → b < 2 ^ k → count_ones b ≡ sum (digits 2 k b)
+unfolding digits
+counted zero b h = omega (arith, ones_le_self b)
+counted (suc k) b h =
+    let p : count_ones (b / 2 * 2 ^ 1 + b % 2) ≡ count_ones (b / 2) + count_ones (b % 2) = ones_cat 1 (b / 2) (b % 2) (omega arith) in
+    let w : b / 2 * 2 ^ 1 + b % 2 ≡ b = omega arith in
+    let q : count_ones (b % 2) ≡ b % 2 = one_bit (b % 2) (omega arith) in
+    sym (ap count_ones w) ∙ p ∙ ap₂ (λ (m n : ℕ). m + n) (counted k (b / 2) (omega (arith, pow-succ' 2 k))) q ∙ sym (sum_split k b)
+  where
+    one_bit : (d : ℕ) → d < 2 → count_ones d ≡ d
+    one_bit zero l = omega (arith, ones_le_self 0)
+    one_bit (suc zero) l =
+        ⊎_elim (λ z. absurd (omega (arith, zero_from_ones 1 z))) (λ p. omega (arith, ones_le_self 1)) (eq-zero-or-pos (count_ones 1))
+    one_bit (suc (suc d)) l = absurd (omega arith)
+
+pub odd_is : (s : ℕ) → s < 128 → s * 2 + from_bool (eqb (count_ones s % 2) 0) ≡ odd s
+unfolding odd
+odd_is s h =
+    rw (counted 7 s h)
+    (by_test (eqb (sum (digits 2 7 s) % 2) 0) (λ e. let z = eqb-true _ _ e in rw e (omega arith)) (λ e. let z = eqb-false _ _ e in rw e (omega arith)))
 
 pub notarized_is : (k : List ℕ) (i j : ℕ) → length k ≡ 8
     → notarized k i j
@@ -81,14 +96,6 @@ notarized_octets k i j o = record {
 odd_half : (s : ℕ) → odd s / 2 ≡ s
 unfolding odd
 odd_half s = omega arith
-
--- the ones of all bits but the last, and the last
-sum_split : (n b : ℕ) → sum (digits 2 (suc n) b) ≡ sum (digits 2 n (b / 2)) + b % 2
-unfolding digits
-sum_split zero b = omega (arith, div-one b)
-sum_split (suc n) b =
-    let e : b / 2 ^ suc n ≡ b / 2 / 2 ^ n = ap (λ (m : ℕ). b / m) (pow-succ' 2 n) ∙ sym (div-div-eq-div-mul b 2 (2 ^ n)) in
-    omega (arith, ap (λ (m : ℕ). m % 2) e, sum_split n b)
 
 ones_split : (b : ℕ) → ones b ≡ sum (digits 2 7 (b / 2)) + b % 2
 unfolding ones

@@ -12,14 +12,7 @@ fn odd_byte(bits: u8) -> u8
     requires { bits < 128 }
     ensures { result ≡ odd bits }
 {
-    let ones = bits / 64 % 2
-        + bits / 32 % 2
-        + bits / 16 % 2
-        + bits / 8 % 2
-        + bits / 4 % 2
-        + bits / 2 % 2
-        + bits % 2;
-    bits * 2 + (1 - ones % 2)
+    bits * 2 + u8::from(bits.count_ones() % 2 == 0)
 }
 
 // The leftmost seven bits stay; what the last bit was plays no part.
@@ -39,19 +32,10 @@ fn mix(byte: u8, group: u32) -> u8
 pub fn set_parity(b: [u8; 8]) -> [u8; 8]
     ensures { result ≡ parity_of b }
 {
-    [
-        with_parity(b[0]),
-        with_parity(b[1]),
-        with_parity(b[2]),
-        with_parity(b[3]),
-        with_parity(b[4]),
-        with_parity(b[5]),
-        with_parity(b[6]),
-        with_parity(b[7]),
-    ]
+    b.map(with_parity)
 }
 
-// The sender's identifier goes into the first four bytes, the receiver's into the last four.
+// The sender's identifier goes into the first four bytes, the receiver's into the last four. A loop is no plainer: each byte has a group of its own.
 pub fn notarize(key: InterchangeKey, sender: u32, receiver: u32) -> NotarizedKey
     ensures { result.0 ≡ notarized key.0 sender receiver }
 {

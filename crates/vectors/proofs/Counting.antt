@@ -1,36 +1,24 @@
--- Laws of the counts.
-use Rattle.std.proofs.Common.{◌≡◌, ℕ, ◌+◌, Bool, true, false, cond, T, eqb, List, [], ◌∷◌, refl, ap₂, add-one, arith, eqb→eq, eq-eqb}
-use Rattle.ground.specs.Tests.{both_left, both_right}
+-- Laws of the counts, and of a table's rows.
+use Rattle.std.proofs.Common.{◌≡◌, ℕ, zero, suc, ◌+◌, ◌*◌, ◌<◌, List, [], refl, get_or, take, drop, slice_index, ap, ◌∙◌, add-one, arith, get_or-take, get_or-drop, drop-drop}
+use Rattle.std.specs.Simd.{first_chunks}
 use Rattle.cipher.specs.Cipher.{enciphered, deciphered}
-use Rattle.vectors.specs.Answers.{equal, one, right, key_at, plain_at, cipher_at, forwards, backwards}
+use Rattle.vectors.specs.Answers.{one, right, key_at, plain_at, cipher_at, forwards, backwards}
 
-equal_self : (xs : List ℕ) → equal xs xs ≡ true
-unfolding equal
-equal_self [] = refl
-equal_self (x ∷ xs) = rw (eq-eqb x x refl, equal_self xs)
+-- row i of the rows of three
+row_at : (t : List ℕ) (n i : ℕ) → i < n → get_or (first_chunks 3 n t) i [] ≡ take 3 (drop (3 * i) t)
+row_at t zero i h = absurd (omega arith)
+row_at t (suc n) zero h = refl
+row_at t (suc n) (suc i) h =
+    let e : 3 + 3 * i ≡ 3 * suc i = omega arith in
+    row_at (drop 3 t) n i (omega arith) ∙ ap (take 3) (drop-drop (3 * i) 3 t ∙ ap (λ (k : ℕ). drop k t) e)
 
-equal_same : (xs ys : List ℕ) → T (equal xs ys) → xs ≡ ys
-unfolding equal
-equal_same [] [] t = refl
-equal_same [] (y ∷ ys) t = absurd t
-equal_same (x ∷ xs) [] t = absurd t
-equal_same (x ∷ xs) (y ∷ ys) t =
-    ap₂ (λ (z : ℕ) (zs : List ℕ). z ∷ zs)
-    (eqb→eq x y (both_left (eqb x y) (equal xs ys) t))
-    (equal_same xs ys (both_right (eqb x y) (equal xs ys) t))
-
-counts_none : (b : Bool) → (T b → ⊥) → ◌≡◌ {A = ℕ} (cond b 1 0) 0
-counts_none true n = absurd (n tt)
-counts_none false n = refl
-
-pub one_right : (xs ys : List ℕ) → xs ≡ ys → one xs ys ≡ 1
-unfolding one
-one_right xs ys e = rw (e, equal_self ys)
-
--- by a test b that finds them different
-pub one_wrong : (xs ys : List ℕ) {b : Bool} → (xs ≡ ys → b ≡ true) → b ≡ false → one xs ys ≡ 0
-unfolding one
-one_wrong xs ys h n = counts_none (equal xs ys) (λ t. let e : ◌≡◌ {A = ℕ} 0 1 = cc (h (equal_same xs ys t)) in omega arith)
+-- number j of row i stands at 3 i + j of the table
+pub row_read : (t : List ℕ) (b : List (List ℕ)) (n i j k : ℕ) → b ≡ first_chunks 3 n t → i < n → j < 3 → 3 * i + j ≡ k
+    → get_or (get_or b i []) j 0 ≡ slice_index t k
+row_read t b n i j k e h l f =
+    ap (λ (r : List (List ℕ)). get_or (get_or r i []) j 0) e
+    ∙ ap (λ (r : List ℕ). get_or r j 0) (row_at t n i h)
+    ∙ get_or-take 3 (drop (3 * i) t) j 0 l ∙ get_or-drop (3 * i) t j 0 ∙ ap (λ (m : ℕ). get_or t m 0) f
 
 -- one answer more
 right_next : (answer published : ℕ → List ℕ) (n : ℕ) → right answer published (n + 1) ≡ right answer published n + one (answer n) (published n)

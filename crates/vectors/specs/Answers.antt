@@ -1,19 +1,13 @@
 -- How many answers are the published ones.
-use Rattle.std.specs.Prelude.{ℕ, zero, suc, ◌+◌, ◌-◌, ◌*◌, ◌/◌, Bool, true, false, cond, List, [], ◌∷◌, length, ◌==◌, slice_index}
-use Rattle.ground.specs.Tests.{both}
+use Rattle.std.specs.Prelude.{ℕ, zero, suc, ◌+◌, ◌-◌, ◌*◌, ◌/◌, cond, List, length, slice_index}
+use Rattle.std.specs.Str.{bytes_eq}
 use Rattle.cipher.specs.Bits.{bytes}
 use Rattle.cipher.specs.Cipher.{enciphered, deciphered}
 use Rattle.vectors.specs.declared.answers.Tally.{Tally}
 
-unfoldable pub equal : List ℕ → List ℕ → Bool
-equal [] [] = true
-equal [] (y ∷ ys) = false
-equal (x ∷ xs) [] = false
-equal (x ∷ xs) (y ∷ ys) = both (x == y) (equal xs ys)
-
 -- 1 for an answer that is the published one, else 0
 unfoldable pub one : List ℕ → List ℕ → ℕ
-one answer published = cond (equal answer published) 1 0
+one answer published = cond (bytes_eq answer published) 1 0
 
 -- of the first n answers
 unfoldable pub right : (answer published : ℕ → List ℕ) → ℕ → ℕ

@@ -3,7 +3,6 @@ ghost use Rattle.std.specs.Prelude.{◌≡◌, ◌+◌, ◌%◌, ◌^◌, ◌≤
 ghost use Rattle.vectors.specs.Answers.{one};
 
 use crate::report::wrong;
-use check::same;
 
 // The right answers, each way, and the wrong ones.
 #[derive(Clone, Copy)]
@@ -28,13 +27,23 @@ impl Tally {
     }
 }
 
-// 1 for an answer that is the published one; else 0, and a line that says so.
-pub fn judged(group: &[u8], row: usize, answer: &[u8], published: &[u8]) -> u64
-    ensures { (result ≡ one answer.now published.now) × (result ≤ 1) }
-{
-    if same(answer, published) {
-        return 1;
+// Where an answer stands: its group, and its row from 1.
+#[derive(Clone, Copy)]
+pub struct Place<'a> {
+    pub group: &'a [u8],
+    pub row: usize,
+}
+
+impl Place<'_> {
+    // 1 for an answer that is the published one; else 0, and a line that says so.
+    #[tactic(auto, unfolding(crate::specs::Answers::one))]
+    pub fn judged(self, answer: &[u8], published: &[u8]) -> u64
+        ensures { (result ≡ one answer.now published.now) × (result ≤ 1) }
+    {
+        let right = answer == published;
+        if !right {
+            wrong(self, answer, published);
+        }
+        u64::from(right)
     }
-    wrong(group, row, answer, published);
-    0
 }

@@ -4,28 +4,28 @@ ghost use Rattle.cipher.specs.Bits.{bytes};
 ghost use Rattle.cipher.specs.Cipher.{valued};
 ghost use Rattle.vectors.specs.Answers.{one};
 
-use crate::answers::{Tally, judged};
+use crate::answers::{Place, Tally};
 use crate::fips113::{KEY, PLAIN, VALUE, VECTOR};
 use crate::report::line;
 use cipher::bytes_of;
 use cipher::fixity::fixity_of;
 use cipher::keys::{DataKey, Vector};
 
-fn answered(group: &[u8], key: DataKey, vector: Vector, plain: &[u8], published: u64) -> u64
+fn answered(place: Place, key: DataKey, vector: Vector, plain: &[u8], published: u64) -> u64
     ensures { (result ≡ one (valued key.0 vector.0 plain.now).value (bytes published)) × (result ≤ 1) }
 {
-    let f = fixity_of(key, vector, plain);
-    let value = f.value;
-    judged(group, 1, &value, &bytes_of(published))
+    let value = fixity_of(key, vector, plain).unwrap_or([0; 8]);
+    place.judged(&value, &bytes_of(published))
 }
 
 // A value is an enciphering; nothing is deciphered.
 pub fn run(group: &[u8]) -> Tally
     ensures { result.enciphered + result.deciphered + result.wrong ≡ 1 }
 {
+    let place = Place { group, row: 1 };
     let key = DataKey(bytes_of(KEY));
     let vector = Vector(bytes_of(VECTOR));
-    let right = answered(group, key, vector, &PLAIN, VALUE);
+    let right = answered(place, key, vector, &PLAIN, VALUE);
     let tally = Tally {
         enciphered: right,
         deciphered: 0,

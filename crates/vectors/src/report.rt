@@ -1,5 +1,5 @@
-// The lines that the program writes.
-use crate::answers::Tally;
+// The lines that the program writes, by `io`: `println!` is no plainer here, with a handle through every function and a result that none can use.
+use crate::answers::{Place, Tally};
 use io::{print_decimal, print_hex, write_all};
 
 fn text(s: &[u8]) {
@@ -11,23 +11,21 @@ fn number(n: u64) {
 }
 
 fn byte(b: u8) {
-    print_hex(1, b as u64, 2);
+    print_hex(1, u64::from(b), 2);
 }
 
 fn bytes(s: &[u8]) {
-    let mut i = 0;
-    while i < s.len() {
-        byte(s[i]);
-        i += 1;
+    for b in s {
+        byte(*b);
     }
 }
 
 // An answer that is not the published one.
-pub fn wrong(group: &[u8], row: usize, answer: &[u8], published: &[u8]) {
+pub fn wrong(place: Place, answer: &[u8], published: &[u8]) {
     text(b"wrong: ");
-    text(group);
+    text(place.group);
     text(b" row ");
-    number(row as u64);
+    number(place.row as u64);
     text(b" gives ");
     bytes(answer);
     text(b" and not ");

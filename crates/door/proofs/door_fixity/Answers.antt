@@ -1,13 +1,13 @@
-use mathlib.Core.Path.{◌∙◌, ap, ap₂}
-use mathlib.Core.List.{List}
-use Prim.Native.Nat.{ℕ}
-use Rattle.cipher.specs.Cipher.{valued}
+use Rattle.std.proofs.Common.{rules}
+use Rattle.ground.specs.Rows.{row}
+use Rattle.cipher.specs.Cipher.{number}
 use Rattle.door.specs.Door.{fixed}
 use Rattle.door.proofs.door_fixity.Goals as goal
 
-pub returns : goal.returns
-unfolding fixed
-returns c =
-    ap₂ (λ (n v : ℕ). record { answer = n; value = v }) c.number_of.ensures c.word_of.ensures
-    ∙ ap fixed c.fixity_of-f.ensures
-    ∙ ap₂ (λ (k v : List ℕ). fixed (valued k v c.args.plain.now)) c.bytes_of.ensures c.bytes_of-2.ensures
+pub returns-in-Ok : goal.returns-in-Ok
+unfolding fixed number row
+returns-in-Ok c = search rules
+
+pub returns-in-Err : goal.returns-in-Err
+unfolding fixed number row
+returns-in-Err c = search rules

@@ -1,6 +1,5 @@
-use Prim.Native.Nat.{◌/◌, ◌%◌}
-use native.Mathlib.Omega.{arith}
-use lib.Bits.{xor_lt}
+use Rattle.std.proofs.Common.{◌/◌, ◌%◌, arith, rules}
+use Rattle.std.proofs.lemmas.Nat.{xor_lt}
 use Rattle.keys.specs.Keys.{mixed}
 use Rattle.keys.proofs.mix.Goals as goal
 
@@ -9,4 +8,4 @@ odd_byte-requires c = xor_lt 7 (c.args.byte / 2) (c.args.group % 128) (omega (ar
 
 pub returns : goal.returns
 unfolding mixed
-returns c = c.odd_byte.ensures
+returns c = search rules
