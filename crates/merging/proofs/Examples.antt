@@ -10,7 +10,8 @@ use Rattle.keys.specs.Keys.{notarized}
 use Rattle.state.specs.State.{Bytes, vacant, bare, holders, give, leave, shut_to, key_at, named}
 use Rattle.table.specs.Entries.{fits, id_of, entry_in, entry_of, enter_in, enter}
 use Rattle.table.specs.Passwords.{big, same, sealed, authentic}
-use Rattle.rules.specs.World.{seat_of, World}
+use Rattle.state.specs.State.{seat_of}
+use Rattle.rules.specs.World.{World}
 use Rattle.rules.specs.Commands.{UserCommand, RAS, LAU, CPW, GIV, LIV, LDK, mode, refusals, effect}
 use Rattle.rules.specs.Step.{step, rule}
 use Rattle.rules.specs.Sides.{mode_side, side_for, function_of, unknown, wrong_pair, with_key, with_vector, after_mode}

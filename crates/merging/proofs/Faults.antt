@@ -8,7 +8,8 @@ use Rattle.state.specs.State.{vacant, seat, bare, holders, leave, shut_to, key_a
 use Rattle.table.specs.Entries.{fits, id_of, entry_in, entry_of}
 use Rattle.table.specs.Passwords.{big, same, authentic}
 use Rattle.rules.specs.Commands.{UserCommand, LAU, CPW, refusals, effect}
-use Rattle.rules.specs.World.{seat_of, shut_for}
+use Rattle.state.specs.State.{seat_of}
+use Rattle.rules.specs.World.{shut_for}
 use Rattle.rules.specs.Refusals.{test}
 use Rattle.rules.specs.Step.{carry, rule, step}
 use Rattle.merging.specs.Ids.{distinct, different}

@@ -7,12 +7,13 @@ use Rattle.std.specs.Prelude.{Option, None, Some}
 use Rattle.std.proofs.Math.Dec.{eqb}
 use borrow.Author.Tests.{ne_eqb}
 use Rattle.state.specs.declared.Holdings.{Holdings}
-use Rattle.rules.specs.World.{Seat}
+use Rattle.state.specs.State.{Seat}
 use Rattle.state.specs.State.{Bytes, find}
 use Rattle.table.specs.Entries.{entry_of}
 use Rattle.table.specs.Passwords.{sealed}
 use Rattle.table.proofs.Laws.{sealed_eight}
-use Rattle.rules.specs.World.{seat_of, World, Own, own, shut_for, current, key1}
+use Rattle.state.specs.State.{seat_of}
+use Rattle.rules.specs.World.{World, Own, own, shut_for, current, key1}
 use Rattle.rules.specs.Commands.{Effect, refused, gives, keeps, leaves, enters, writes}
 use Rattle.rules.specs.Step.{carry}
 use Rattle.properties.specs.Single.{count}

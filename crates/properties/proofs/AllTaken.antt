@@ -11,7 +11,8 @@ use Rattle.state.specs.declared.Place.{Place}
 use Rattle.state.specs.State.{Bytes, holders, find, all_taken, shut_to, key_at}
 use Rattle.table.specs.Entries.{fits}
 use Rattle.table.specs.Passwords.{big}
-use Rattle.rules.specs.World.{seat_of, World, own, shut_for}
+use Rattle.state.specs.State.{seat_of}
+use Rattle.rules.specs.World.{World, own, shut_for}
 use Rattle.rules.specs.Refusals.{Test, test, first_of}
 use Rattle.rules.specs.Commands.{RAS, by, refusals, effect}
 use Rattle.rules.specs.Step.{number_of, step}

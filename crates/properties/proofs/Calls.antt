@@ -13,7 +13,8 @@ use Rattle.cipher.proofs.Promise.{mode_vector-after}
 use Rattle.state.specs.declared.Holdings.{Holdings}
 use Rattle.state.specs.State.{Bytes, seat, find, put, give, with_places}
 use Rattle.table.specs.Passwords.{big}
-use Rattle.rules.specs.World.{seat_of, World, over, shut_for, own}
+use Rattle.state.specs.State.{seat_of}
+use Rattle.rules.specs.World.{World, over, shut_for, own}
 use Rattle.rules.specs.Sides.{mode_side, after_mode, with_vector, lacks_vector}
 use Rattle.rules.specs.Refusals.{bad_length, bad_blocks}
 use Rattle.rules.specs.Commands.{by, mode, refusals, effect}

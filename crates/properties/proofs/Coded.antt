@@ -10,7 +10,8 @@ use Rattle.cipher.specs.declared.modes.Mode.TheVariants.{Ecbe, Ecbd, Cbce, Cbcd,
 use Rattle.cipher.proofs.Promise.{mode_text-length, mode_text_back}
 use Rattle.state.specs.declared.Holdings.{Holdings}
 use Rattle.state.specs.State.{Bytes, find}
-use Rattle.rules.specs.World.{seat_of, World}
+use Rattle.state.specs.State.{seat_of}
+use Rattle.rules.specs.World.{World}
 use Rattle.rules.specs.Sides.{mode_side, after_mode, with_vector, lacks_vector}
 use Rattle.rules.specs.Refusals.{bad_blocks}
 use Rattle.rules.specs.Commands.{by, mode}

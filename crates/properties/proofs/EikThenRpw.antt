@@ -15,7 +15,8 @@ use Rattle.state.specs.declared.Place.{Place}
 use Rattle.state.specs.State.{held, Bytes, past_keys, named, key_at, rekeyed, find, shut_to}
 use Rattle.table.specs.Entries.{fits, entry_of}
 use Rattle.table.specs.Passwords.{big, authentic}
-use Rattle.rules.specs.World.{seat_of, World, over, key1}
+use Rattle.state.specs.State.{seat_of}
+use Rattle.rules.specs.World.{World, over, key1}
 use Rattle.rules.specs.Refusals.{test, first_of, of_own, out_of_turn}
 use Rattle.rules.specs.Commands.{RAS, CPW, by, EIK, RPW, tests, refusals, effect, keyed}
 use Rattle.rules.specs.Step.{number_of, step}

@@ -5,7 +5,8 @@ use Rattle.cipher.specs.declared.modes.Mode.{Mode}
 use Rattle.cipher.specs.declared.modes.Mode.TheVariants.{Ecbe, Ecbd, Cbce, Cbcd, Cfbe, Cfbd}
 use Rattle.keys.specs.Keys.{parity_of}
 use Rattle.state.specs.State.{Bytes, find, key_at}
-use Rattle.rules.specs.World.{seat_of, World}
+use Rattle.state.specs.State.{seat_of}
+use Rattle.rules.specs.World.{World}
 use Rattle.properties.proofs.Others.{others_stay, keys_stay}
 use Rattle.properties.specs.Delivered.{Premises, e, Delivered}
 use Rattle.properties.proofs.Delivered.{delivered}

@@ -8,7 +8,8 @@ use Rattle.ground.specs.Search.{by_test}
 use Rattle.state.specs.declared.Holdings.{Holdings}
 use Rattle.state.specs.declared.Place.{Place}
 use Rattle.state.specs.State.{Bytes, vacant, seat, has, find, put, admit, give, give_to, leave}
-use Rattle.rules.specs.World.{seat_of, World}
+use Rattle.state.specs.State.{seat_of}
+use Rattle.rules.specs.World.{World}
 use Rattle.rules.specs.Commands.{UserCommand, Effect, refused, gives, keeps, leaves, enters, writes, by}
 use Rattle.rules.specs.Step.{step, carry, rule_in}
 use Rattle.properties.proofs.Steps.{give-own}

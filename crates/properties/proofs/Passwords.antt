@@ -15,7 +15,8 @@ use Rattle.state.specs.State.{Bytes, bare, seat, has, find, all_taken, admit, gi
 use Rattle.table.specs.Entries.{fits, entry_of, enrolled}
 use Rattle.table.specs.Passwords.{big, sealed, same, authentic}
 use Rattle.table.proofs.Laws.{sealed_eight}
-use Rattle.rules.specs.World.{seat_of, World, over, key1}
+use Rattle.state.specs.State.{seat_of}
+use Rattle.rules.specs.World.{World, over, key1}
 use Rattle.rules.specs.Refusals.{lacks_entry, first_of}
 use Rattle.rules.specs.Commands.{RAS, CPW, by, IPW, tests, refusals, effect}
 use Rattle.rules.specs.Step.{number_of, step}

@@ -14,7 +14,8 @@ use Rattle.state.specs.State.{Bytes, bare, find, give, with_places, named, key_a
 use Rattle.table.specs.Entries.{fits, id_of, entry_in, entry_of, enrol_in, enrolled}
 use Rattle.table.specs.Passwords.{big, same, sealed}
 use Rattle.table.proofs.Laws.{sealed_eight}
-use Rattle.rules.specs.World.{seat_of, World, over, key1}
+use Rattle.state.specs.State.{seat_of}
+use Rattle.rules.specs.World.{World, over, key1}
 use Rattle.rules.specs.Refusals.{first_of, test, of_own, lacks_entry}
 use Rattle.rules.specs.Commands.{by, EIK, IPW, RAS, tests, effect, keyed}
 use Rattle.rules.specs.Step.{step}

@@ -9,7 +9,8 @@ use Rattle.state.specs.declared.Facility.{Facility}
 use Rattle.state.specs.State.{Bytes, find, key_at}
 use Rattle.table.specs.Entries.{fits, entry_of}
 use Rattle.table.specs.Passwords.{big, authentic}
-use Rattle.rules.specs.World.{seat_of, World, over, own, shut_for, key1}
+use Rattle.state.specs.State.{seat_of}
+use Rattle.rules.specs.World.{World, over, own, shut_for, key1}
 use Rattle.rules.specs.Refusals.{test}
 use Rattle.rules.specs.Commands.{UserCommand, RAS, CPW, by, Effect, refused, refusals, effect}
 use Rattle.rules.specs.Step.{Done, Refused, Told, told, plain, ruled, rule, step}

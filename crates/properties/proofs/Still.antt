@@ -13,7 +13,8 @@ use Rattle.cipher.specs.declared.modes.Mode.TheVariants.{Ecbe, Ecbd}
 use Rattle.state.specs.declared.Holdings.{Holdings}
 use Rattle.state.specs.declared.Place.{Place}
 use Rattle.state.specs.State.{Bytes, has, seat, find, put, give, give_to, with_places}
-use Rattle.rules.specs.World.{seat_of, World, over, own, shut_for}
+use Rattle.state.specs.State.{seat_of}
+use Rattle.rules.specs.World.{World, over, own, shut_for}
 use Rattle.rules.specs.Sides.{after_mode}
 use Rattle.rules.specs.Commands.{UserCommand, by, mode, DAUT, refused, refusals, effect}
 use Rattle.rules.specs.Step.{step, carry, rule}

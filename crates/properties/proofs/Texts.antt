@@ -11,7 +11,8 @@ use Rattle.cipher.proofs.Promise.{mode_text-length, mode_text_whole, mode_text_j
 use Rattle.ground.specs.Lists.{Below, none, below_take, below_drop}
 use Rattle.state.specs.declared.Holdings.{Holdings}
 use Rattle.state.specs.State.{Bytes, find}
-use Rattle.rules.specs.World.{seat_of, World}
+use Rattle.state.specs.State.{seat_of}
+use Rattle.rules.specs.World.{World}
 use Rattle.rules.specs.Sides.{mode_side, side_for, function_of}
 use Rattle.rules.specs.Refusals.{bad_blocks}
 use Rattle.rules.specs.Commands.{by, mode, DAUT, effect}

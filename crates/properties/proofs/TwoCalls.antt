@@ -14,7 +14,8 @@ use Rattle.cipher.proofs.Promise.{mode_vector-after}
 use Rattle.state.specs.declared.Holdings.{Holdings}
 use Rattle.state.specs.State.{Bytes, find}
 use Rattle.table.specs.Passwords.{big}
-use Rattle.rules.specs.World.{seat_of, World, own, shut_for}
+use Rattle.state.specs.State.{seat_of}
+use Rattle.rules.specs.World.{World, own, shut_for}
 use Rattle.rules.specs.Sides.{mode_side, lacks_vector}
 use Rattle.rules.specs.Refusals.{test, bad_blocks}
 use Rattle.rules.specs.Commands.{by, mode, refusals, effect}

@@ -13,7 +13,8 @@ use Rattle.state.specs.declared.Place.{Place}
 use Rattle.state.specs.State.{Bytes, has, seat, vacant, find, put, admit, give, give_to, leave, shut_to, key_at, rekeyed}
 use Rattle.table.specs.Entries.{enrolled}
 use Rattle.table.specs.Passwords.{big, sealed, moved}
-use Rattle.rules.specs.World.{seat_of, World, Own, own, over}
+use Rattle.state.specs.State.{seat_of}
+use Rattle.rules.specs.World.{World, Own, own, over}
 use Rattle.rules.specs.Refusals.{first_of}
 use Rattle.rules.specs.Commands.{UserCommand, LAU, Command, by, EIK, IPW, RPW, logout, Effect, refused, gives, keeps, leaves, enters, writes, refusals, effect, tests, undue, keyed}
 use Rattle.rules.specs.Step.{Done, Refused, carry, rule, rule_in, result, told, plain, number_of, step, step_by, settled}

@@ -8,7 +8,8 @@ use Rattle.state.specs.declared.Held.{Held}
 use Rattle.state.specs.declared.Holdings.{Holdings}
 use Rattle.state.specs.declared.Side.{Side}
 use Rattle.state.specs.State.{held, Bytes, no_vector, find, key_at}
-use Rattle.rules.specs.World.{seat_of, World}
+use Rattle.state.specs.State.{seat_of}
+use Rattle.rules.specs.World.{World}
 use Rattle.rules.specs.Step.{Done, Gave, Result}
 
 -- ---- users

@@ -1,7 +1,7 @@
 // The six modes, and DAUT.
 
 // What the check opens of the page's table to see that a command does what its row says.
-#![tactic(auto, using(rules::proofs::Laws::by_effect), unfolding(rules::specs::Commands::tests, rules::specs::Commands::refusals, rules::specs::Commands::effect, rules::specs::Step::effected, rules::specs::Refusals::test, rules::specs::World::seat_of))]
+#![tactic(auto, using(rules::proofs::Laws::by_effect), unfolding(rules::specs::Commands::tests, rules::specs::Commands::refusals, rules::specs::Commands::effect, rules::specs::Step::effected, rules::specs::Refusals::test, state::specs::State::seat_of))]
 
 ghost use Rattle.std.specs.Prelude.{◌≡◌};
 ghost use Rattle.rules.specs.Commands.{by, mode, DAUT};

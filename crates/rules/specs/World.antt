@@ -1,5 +1,5 @@
 -- What a command finds: the facility with the password table that it is lent; and of these what one user's command may see, his own.
-use Rattle.std.specs.Prelude.{Bool, true, false, Option, None, Some, List, ℕ, length}
+use Rattle.std.specs.Prelude.{Bool, Option, List, ℕ, length}
 use Rattle.cipher.specs.declared.keys.InterchangeKey.{InterchangeKey}
 use Rattle.cipher.specs.declared.keys.DataKey.{DataKey}
 use Rattle.cipher.specs.declared.keys.Vector.{Vector}
@@ -7,7 +7,7 @@ use Rattle.state.specs.declared.Held.{Held}
 use Rattle.state.specs.declared.Side.{Side}
 use Rattle.state.specs.declared.Holdings.{Holdings}
 use Rattle.state.specs.declared.Facility.{Facility}
-use Rattle.state.specs.State.{Bytes, bare, find, shut_to, key_at}
+use Rattle.state.specs.State.{Bytes, Seat, seat_of, find, shut_to, key_at}
 use Rattle.table.specs.Entries.{fits, entry_of}
 
 pub record World : Type 0 where
@@ -17,15 +17,6 @@ pub record World : Type 0 where
 abbrev pub over : Facility → Bytes → World
 over f t = record { facility = f; table = t }
 
--- whether a user is active, and what he then holds; one who is not holds nothing
-pub record Seat : Type 0 where
-  pub active : Bool
-  pub holdings : Holdings
-
-unfoldable pub seat_of : Option Holdings → Seat
-seat_of None = record { active = false; holdings = bare }
-seat_of (Some h) = record { active = true; holdings = h }
-
 -- ---- a user's own: the keys and the mark, whether the table's length is right, his entry, his place
 
 pub record Own : Type 0 where
@@ -34,7 +25,7 @@ pub record Own : Type 0 where
   pub due : Bool
   pub fits : Bool
   pub entry : Option Bytes
-  pub seat : Seat
+  pub seat : Seat  -- whether he is active, and what he then holds
 
 abbrev pub own : ℕ → World → Own
 own u w = record {

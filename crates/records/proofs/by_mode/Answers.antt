@@ -3,7 +3,7 @@ use Rattle.std.proofs.Common.{◌≡◌, ap, sym, arith, ◌∙◌, ◌<◌, ◌
 use Rattle.std.proofs.lemmas.Grind.{common_steps}
 use Rattle.rules.specs.Commands.{tests}
 use Rattle.rules.specs.Refusals.{test}
-use Rattle.rules.specs.World.{seat_of}
+use Rattle.state.specs.State.{seat_of}
 use Rattle.rules.proofs.Laws.{at_exit, by_effect, mode_first, good_blocks}
 use Rattle.std.proofs.lemmas.Bool.Decides.{nat_tests}
 use Rattle.cipher.specs.declared.keys.DataKey.{DataKey}

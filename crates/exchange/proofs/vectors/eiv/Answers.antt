@@ -2,7 +2,7 @@ use Rattle.std.proofs.Common.{arith}
 use Rattle.std.proofs.lemmas.Grind.{common_steps}
 use Rattle.rules.specs.Commands.{tests, refusals}
 use Rattle.rules.specs.Refusals.{test}
-use Rattle.rules.specs.World.{seat_of}
+use Rattle.state.specs.State.{seat_of}
 use Rattle.rules.proofs.Laws.{at_exit}
 use Rattle.exchange.proofs.vectors.eiv.Goals as goal
 
