@@ -1,7 +1,8 @@
 -- A line shows no more bytes than its command's value has.
-use Rattle.std.specs.Prelude.{◌≡◌, refl, Bool, true, false, cond, List, [], ◌∷◌, ℕ, zero, suc, ◌-◌, ◌≤◌, eqb, leb, length, take, drop}
+use Rattle.std.specs.Prelude.{◌≡◌, refl, Bool, true, false, cond, List, [], ◌∷◌, ℕ, zero, suc, ◌-◌, ◌≤◌, eqb, leb, length, take, drop, Option, Some, None}
 use Rattle.std.proofs.Common.{sym, ap, ◌∙◌, subst, arith, length-drop, length-append, eqb-true, leb-true, le-leb}
 use Rattle.std.proofs.lemmas.Bool.{false≢true}
+use Rattle.std.proofs.lemmas.Option.{none-some, same_Some}
 use Rattle.std.proofs.Math.Option.{some, none-ne-some, some-injective}
 use Rattle.ground.specs.Search.{by_test}
 use Rattle.ground.specs.Lists.{Below}
@@ -11,11 +12,12 @@ use Rattle.cipher.specs.declared.modes.Mode.TheVariants.{Ecbe, Ecbd, Cbce, Cbcd,
 use Rattle.cipher.specs.Cipher.{mode_text, onto}
 use Rattle.cipher.proofs.Promise.{mode_text-length}
 use Rattle.stream.specs.declared.Request.{Request}
+use Rattle.stream.specs.declared.Reading.{Reading}
 use Rattle.stream.specs.Fields.{Bytes, field}
 use Rattle.stream.proofs.FieldLaws.{field-length}
 use Rattle.stream.specs.Commands.{Row as Form, commands, arguments_in, arguments_of, blank, decoded}
 use Rattle.stream.specs.Grammar.{argument, spelled, Spells}
-use Rattle.stream.proofs.Exact.{fits_spells, spells_fits}
+use Rattle.stream.proofs.Exact.{fits_spells}
 use Rattle.rules.specs.Commands.{UserCommand, RAS, LAU, CPW, GDK, LDK, GIV, LIV, EIV, RDK, mode, DAUT, Command, by, EIK, IPW, RPW, logout, refusals, refused, effect, tests}
 use Rattle.state.specs.declared.Side.{Side}
 use Rattle.rules.specs.World.{World, Own, own, shut_for}
@@ -116,16 +118,16 @@ all_three true true false rest h = absurd (false≢true h)
 all_three true true true rest h = (refl, refl, refl, h)
 
 -- so of the row of one tag
-fitted : (t n : ℕ) (ks : List ℕ) (c : Command) (l : List Form) (m : List Row) → fitting n l m ≡ true → arguments_in t l ≡ some ks → beside t m ≡ some c
-    → (returned c ≤ length (spelled ks (blank 0) [])) × (written c ≤ n)
-fitted t n ks c [] m h a b = absurd (none-ne-some ks a)
+fitted : (t n : ℕ) (ks : List ℕ) (c : Command) (l : List Form) (m : List Row) → fitting n l m ≡ true
+    → arguments_in t l ≡ Some ks → beside t m ≡ some c → (returned c ≤ length (spelled ks (blank 0) [])) × (written c ≤ n)
+fitted t n ks c [] m h a b = absurd (none-some ks a)
 fitted t n ks c (x ∷ l) [] h a b = absurd (none-ne-some c b)
 fitted t n ks c (x ∷ l) (y ∷ m) h a b =
     let p = all_three (eqb x.tag y.tag) (leb (returned y.command) (length (spelled x.arguments (blank 0) []))) (leb (written y.command) n) (fitting n l m) h in
     let tags : x.tag ≡ y.tag = eqb-true x.tag y.tag p.0 in
     by_test (eqb t y.tag)
     (λ e.
-    let args : x.arguments ≡ ks = some-injective x.arguments ks (rw (tags, e) at a) in
+    let args : x.arguments ≡ ks = same_Some x.arguments ks (rw (tags, e) at a) in
     let command : y.command ≡ c = some-injective y.command c (rw e at b) in
     rw (← args, ← command) (leb-true (returned y.command) (length (spelled x.arguments (blank 0) [])) p.1, leb-true (written y.command) n p.2))
     (λ e. fitted t n ks c l m p.3 (rw (tags, e) at a) (rw e at b))
@@ -156,15 +158,19 @@ all_no_shorter (k ∷ ks) a d e =
 pub shows_no_more : (w : World) (t : ℕ) (v out : Bytes) → Below 256 v → length (shown_in (answer_to w t v out).answered) ≤ length v
 unfolding answer_to arguments_of
 shows_no_more w t v out bytes =
-    by_test (decoded t v).fits (λ h. spelt (decoded t v).asked (drop (decoded t v).text v) (fits_spells t v bytes h)) unspelt
+    by_reading (decoded t v) refl
   where
-    spelt : (a : Request) (d : Bytes) → Spells t v a d → length (shown_in (answer_to w t v out).answered) ≤ length v
-    spelt a d h =
+    spelt : (r : Reading) → Spells t v r.asked (drop r.text v) → length (shown_in (answer_to w t v out).answered) ≤ length v
+    spelt r h =
+        let a = r.asked in
+        let d = drop r.text v in
         let c = spelled_step w t v out a d h in
-        let f = fitted a.tag (length d) h.arguments c.0 commands (rows a d) (rows_fit a d) (ap arguments_of h.tagged ∙ h.known) c.1 in
+        let known = ap arguments_of h.tagged ∙ h.known in
+        let f = fitted a.tag (length d) h.arguments c.0 commands (rows a d) (rows_fit a d) known c.1 in
         let size : length v ≡ length (spelled h.arguments a d) = ap length h.value in
-        let data-size : length d ≡ length v - (decoded t v).text = ap length (sym (spells_fits t v a d h).2) ∙ length-drop (decoded t v).text v in
+        let data-size : length d ≡ length v - r.text = length-drop r.text v in
         rw c.2 (shows w c.0 out (length v) (omega (arith, f.0, all_no_shorter h.arguments a d h.eight)) (omega (arith, f.1)))
 
-    unspelt : (decoded t v).fits ≡ false → length (shown_in (answer_to w t v out).answered) ≤ length v
-    unspelt h = rw h (omega arith)
+    by_reading : (o : Option Reading) → decoded t v ≡ o → length (shown_in (answer_to w t v out).answered) ≤ length v
+    by_reading None e = rw e (omega arith)
+    by_reading (Some r) e = spelt r (fits_spells t v bytes r e)
