@@ -11,7 +11,8 @@ unfolding row
 four_bytes b h = rw (listed 4 b h) (omega arith)
 
 -- the two bytes behind a field's tag are its length
-pub length_there : (s : Bytes) (at : ℕ) → at + 3 ≤ length s → from_be_bytes w16 (get_or s (at + 1) 0 ∷ get_or s (at + 2) 0 ∷ []) ≡ length_at s at
+pub length_there : (s : Bytes) (at : ℕ) → at + 3 ≤ length s
+    → from_be_bytes w16 (get_or s (at + 1) 0 ∷ get_or s (at + 2) 0 ∷ []) ≡ length_at s at
 unfolding length_at row
 length_there s at h =
     let first : at + 1 < length s = omega arith in
