@@ -19,7 +19,8 @@ use Rattle.readings.specs.Cut.{PastEnd}
 -- ---- the numbers that a command is answered by
 
 -- what stands whole is answered as a command is, or by 16
-whole_by : (P : ℕ → Type 0) → P 16 → ((w : World) (c : Command) (out : Bytes) → P (number_of (step w c out).answered.answer))
+whole_by : (P : ℕ → Type 0) → P 16
+    → ((w : World) (c : Command) (out : Bytes) → P (number_of (step w c out).answered.answer))
     → (w : World) (t : ℕ) (v out : Bytes) → P (number_of (answer_to w t v out).answered.answer)
 unfolding answer_to performed
 whole_by P form command w t v out = by_reading (decoded t v)
@@ -34,7 +35,9 @@ whole_by P form command w t v out = by_reading (decoded t v)
 
 -- so never by 17, and by two digits at most
 pub not_17 : (w : World) (t : ℕ) (v out : Bytes) → eqb (number_of (answer_to w t v out).answered.answer) 17 ≡ false
-not_17 = whole_by (λ n. eqb n 17 ≡ false) refl (λ w c out. ne_eqb (number_of (step w c out).answered.answer) 17 (never_17 w c out))
+not_17 =
+    whole_by (λ n. eqb n 17 ≡ false) refl
+    (λ w c out. ne_eqb (number_of (step w c out).answered.answer) 17 (never_17 w c out))
 
 pub at_most_99 : (w : World) (t : ℕ) (v out : Bytes) → number_of (answer_to w t v out).answered.answer ≤ 99
 at_most_99 = whole_by (λ n. n ≤ 99) (omega arith) two_digits
@@ -51,21 +54,29 @@ cut_exactly s at tag = (
         let cut = Cut (get_or s at 0) in
         cond b₁ End (cond b₂ cut (cond b₃ cut (Whole (get_or s at 0) (at + 3) (at + 3 + length_at s at))))
 
-    is : (b₁ b₂ b₃ : Bool) → leb (length s) at ≡ b₁ → ltb (length s - at) 3 ≡ b₂ → ltb (length s - at - 3) (length_at s at) ≡ b₃
+    is : (b₁ b₂ b₃ : Bool)
+        → leb (length s) at ≡ b₁ → ltb (length s - at) 3 ≡ b₂ → ltb (length s - at - 3) (length_at s at) ≡ b₃
         → there b₁ b₂ b₃ ≡ Cut tag → PastEnd s at tag
     is true b₂ b₃ p q r h = cc
-    is false true b₃ p q r h = let e : tag ≡ get_or s at 0 = cc in (leb-false (length s) at p, omega (arith, ltb-true (length s - at) 3 q, leb-false (length s) at p), e)
+    is false true b₃ p q r h =
+        let e : tag ≡ get_or s at 0 = cc in
+        let more = leb-false (length s) at p in
+        (more, omega (arith, ltb-true (length s - at) 3 q, more), e)
     is false false true p q r h =
         let e : tag ≡ get_or s at 0 = cc in
-        (leb-false (length s) at p, omega (arith, ltb-true (length s - at - 3) (length_at s at) r, ltb-false (length s - at) 3 q, leb-false (length s) at p), e)
+        let more = leb-false (length s) at p in
+        let short = ltb-true (length s - at - 3) (length_at s at) r in
+        (more, omega (arith, short, ltb-false (length s - at) 3 q, more), e)
     is false false false p q r h = cc
 
-    has : (b₁ b₂ b₃ : Bool) → leb (length s) at ≡ b₁ → ltb (length s - at) 3 ≡ b₂ → ltb (length s - at - 3) (length_at s at) ≡ b₃
+    has : (b₁ b₂ b₃ : Bool)
+        → leb (length s) at ≡ b₁ → ltb (length s - at) 3 ≡ b₂ → ltb (length s - at - 3) (length_at s at) ≡ b₃
         → PastEnd s at tag → there b₁ b₂ b₃ ≡ Cut tag
     has true b₂ b₃ p q r h = absurd (omega (arith, leb-true (length s) at p, h.0))
     has false true b₃ p q r h = ap Cut (sym h.2)
     has false false true p q r h = ap Cut (sym h.2)
-    has false false false p q r h = absurd (omega (arith, ltb-false (length s - at) 3 q, ltb-false (length s - at - 3) (length_at s at) r, h.0, h.1))
+    has false false false p q r h =
+        absurd (omega (arith, ltb-false (length s - at) 3 q, ltb-false (length s - at - 3) (length_at s at) r, h.0, h.1))
 
 -- from there on there is this one answer, with the tag that stands there; world and output are as they were
 pub seventeen : (s : Bytes) (w : World) (out : Bytes) (at tag : ℕ) → field_at s at ≡ Cut tag

@@ -1,8 +1,8 @@
 -- What a stream's value says is what is done: a value of the grammar is its command's step, and 16 is given to all other values and to no other.
 use Rattle.std.specs.Prelude.{◌≡◌, ◌↔◌, List, [], ◌∷◌, map, ℕ, eqb, Some}
 use Rattle.std.proofs.Common.{refl, sym, ap, ◌∙◌}
-use Rattle.std.proofs.lemmas.Option.{none-some}
 use Rattle.std.proofs.Math.Option.{Option as Perhaps, some, none-ne-some}
+use Rattle.std.proofs.lemmas.Option.{none-some}
 use Rattle.ground.specs.Search.{by_test}
 use Rattle.ground.specs.Lists.{Below}
 use Rattle.stream.specs.declared.Request.{Request}
@@ -53,7 +53,8 @@ module _ (w : World) (t : ℕ) (v out : Bytes) where
   spelled-performed a d h = let f = spells_fits t v a d h in rw (f.1, f.2, f.3)
 
   -- and that is a command's step
-  pub spelled_step : (a : Request) (d : Bytes) → Spells t v a d → (c : Command) × (command_of a d ≡ some c) × (answer_to w t v out ≡ step w c out)
+  pub spelled_step : (a : Request) (d : Bytes) → Spells t v a d
+      → (c : Command) × (command_of a d ≡ some c) × (answer_to w t v out ≡ step w c out)
   unfolding performed
   spelled_step a d h =
       let c = (known_exactly a d).0 (h.arguments, ap arguments_of h.tagged ∙ h.known) in
@@ -62,14 +63,16 @@ module _ (w : World) (t : ℕ) (v out : Bytes) where
   -- ---- 16
 
   -- any other value is answered 16, and nothing is altered
-  pub unspelled : Below 256 v → ((a : Request) (d : Bytes) → Spells t v a d → ⊥) → answer_to w t v out ≡ result (plain (Refused 16) out) w
+  pub unspelled : Below 256 v → ((a : Request) (d : Bytes) → Spells t v a d → ⊥)
+      → answer_to w t v out ≡ result (plain (Refused 16) out) w
   unfolding answer_to
   unspelled bytes h = let f = (misfit t v bytes).1 h in rw f
 
   number : Result → ℕ
   number r = number_of r.answered.answer
 
-  pub sixteen_exactly : Below 256 v → number_of (answer_to w t v out).answered.answer ≡ 16 ↔ ((a : Request) (d : Bytes) → Spells t v a d → ⊥)
+  pub sixteen_exactly : Below 256 v
+      → number_of (answer_to w t v out).answered.answer ≡ 16 ↔ ((a : Request) (d : Bytes) → Spells t v a d → ⊥)
   unfolding number
   sixteen_exactly bytes = (
     λ e a d h.
