@@ -1,7 +1,7 @@
 -- The page's worked example: its input, and the lines that NOTARY prints.
 use Rattle.std.specs.Prelude.{◌≡◌, refl, false}
 use Rattle.std.proofs.Common.{ap}
-use Rattle.std.proofs.Math.Option.{none}
+use Rattle.std.specs.Prelude.{None}
 use Rattle.ground.specs.Lists.{padded}
 use Rattle.ground.specs.Rows.{row, digits}
 use Rattle.keys.specs.Keys.{odd, parity_of}
@@ -9,12 +9,11 @@ use Rattle.stream.specs.Fields.{length_at, field_at}
 use Rattle.stream.specs.Commands.{arguments_of, form_of, has_size, blank, filled, begun, is_argument, took, read_one, read_all, ended, decoded}
 use Rattle.printout.specs.Digits.{hex_digit, hex_byte, decimal_in, decimal}
 use Rattle.printout.specs.Lines.{shown, line}
-use Rattle.state.specs.State.{find, all_taken, bare, give, seat_of, named, key_at, rekeyed}
+use Rattle.state.specs.State.{find, all_taken, bare, give, named, key_at, rekeyed}
 use Rattle.table.specs.Entries.{fits, id_of, entry_in, entry_of}
 use Rattle.table.specs.Passwords.{big, same}
-use Rattle.rules.specs.declared.Answer.TheVariants.{Done}
 use Rattle.rules.specs.Commands.{RAS, by, refusals, effect, tests, keyed}
-use Rattle.rules.specs.Step.{plain, result, rule, step}
+use Rattle.rules.specs.Step.{Done, plain, result, rule, step}
 use Rattle.rules.specs.Sides.{mode_side}
 use Rattle.rules.specs.Refusals.{big_pair, test, of_own, lacks_entry, out_of_turn}
 use Rattle.facility.specs.Requests.{rows, performed}
@@ -24,13 +23,14 @@ use Rattle.properties.proofs.Passwords.{ipw_stands, ras-done}
 use Rattle.session.specs.Run.{answer_to, carry_on, ran_from, transcript}
 use Rattle.programs.specs.Notary.{stream, buffer, start, notary}
 use Rattle.programs.specs.Example.{input, output, password, entered_1, enrolled_5, active_5, lines}
+use Rattle.rules.specs.World.{seat_of}
 
 stands : Stands enrolled_5 5 password
 unfolding start step tests test big fits keyed rekeyed named key_at of_own same parity_of odd digits lacks_entry entry_of entry_in id_of row
 stands = ipw_stands entered_1 5 password buffer refl
 
 -- nobody is active
-nobody : (find 5 enrolled_5.facility.places ≡ none) × (all_taken enrolled_5.facility.places ≡ false)
+nobody : (find 5 enrolled_5.facility.places ≡ None) × (all_taken enrolled_5.facility.places ≡ false)
 unfolding start step tests test big fits keyed rekeyed named key_at of_own same parity_of odd digits lacks_entry entry_of entry_in id_of row
 nobody = (refl, refl)
 

@@ -4,10 +4,9 @@ use Prim.Native.Char.{code}
 use Prim.Native.String.{String, [] as no-letters, ◌∷◌ as ◌then◌}
 use Rattle.printout.specs.Text.{letters}
 use Rattle.state.specs.State.{Bytes, with_places, bare, give}
-use Rattle.rules.specs.declared.Answer.TheVariants.{Done, Refused}
 use Rattle.rules.specs.World.{World, over}
 use Rattle.rules.specs.Commands.{EIK, IPW}
-use Rattle.rules.specs.Step.{Result, plain, step}
+use Rattle.rules.specs.Step.{Done, Refused, Result, plain, step}
 use Rattle.session.specs.Run.{answered, carry_on, transcript}
 use Rattle.programs.specs.Notary.{buffer, start}
 

@@ -1,16 +1,15 @@
 -- "A header or value that runs past the input's end is 17, and reading stops": what is cut is answered 17, and nothing else is.
 use Rattle.std.specs.Prelude.{◌≡◌, ◌↔◌, Bool, true, false, cond, [], ◌∷◌, ℕ, ◌+◌, ◌-◌, ◌≤◌, eqb, leb, ltb, length, get_or, drop, Option, Some, None}
 use Rattle.std.proofs.Common.{refl, sym, ap, ◌∙◌, arith, ne_eqb, leb-true, leb-false, ltb-true, ltb-false}
-use Rattle.std.proofs.Math.Option.{Option as Perhaps, none, some}
+use Rattle.std.specs.Prelude.{Option as Perhaps, None, Some}
 use Rattle.stream.specs.declared.Field.{Field}
 use Rattle.stream.specs.declared.Field.TheVariants.{Whole, Cut, End}
 use Rattle.stream.specs.declared.Reading.{Reading}
 use Rattle.stream.specs.Fields.{Bytes, length_at, field_at}
 use Rattle.stream.specs.Commands.{decoded}
-use Rattle.rules.specs.declared.Answer.TheVariants.{Refused}
 use Rattle.rules.specs.World.{World}
 use Rattle.rules.specs.Commands.{Command}
-use Rattle.rules.specs.Step.{plain, number_of, step}
+use Rattle.rules.specs.Step.{Refused, plain, number_of, step}
 use Rattle.facility.specs.Requests.{command_of, carried_out, performed}
 use Rattle.properties.proofs.Demand1.{never_17, two_digits}
 use Rattle.session.specs.Run.{obeyed, answer_to, answered, ran, go_on, ran_from, turn}
@@ -26,8 +25,8 @@ unfolding answer_to performed
 whole_by P form command w t v out = by_reading (decoded t v)
   where
     by_command : (o : Perhaps Command) → P (number_of (carried_out w o out).answered.answer)
-    by_command none = form
-    by_command (some c) = command w c out
+    by_command None = form
+    by_command (Some c) = command w c out
 
     by_reading : (o : Option Reading) → P (number_of (obeyed w o v out).answered.answer)
     by_reading None = form

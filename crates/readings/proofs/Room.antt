@@ -11,9 +11,8 @@ use Rattle.stream.proofs.FieldLaws.{part_bytes}
 use Rattle.printout.specs.Page.{Page, page, letter, entered}
 use Rattle.printout.specs.Digits.{hex_byte, hex, decimal_in, decimal}
 use Rattle.printout.specs.Lines.{shown, line}
-use Rattle.rules.specs.declared.Answer.TheVariants.{Refused}
 use Rattle.rules.specs.World.{World}
-use Rattle.rules.specs.Step.{plain, number_of}
+use Rattle.rules.specs.Step.{Refused, plain, number_of}
 use Rattle.session.specs.Run.{answer_to, answered, line_of, transcript, go_on, carry_on, ran_from, printed_from, printed_run}
 use Rattle.readings.proofs.Cut.{at_most_99}
 use Rattle.readings.specs.Shown.{shown_in}

@@ -1,7 +1,8 @@
 -- A line shows no more bytes than its command's value has.
 use Rattle.std.specs.Prelude.{◌≡◌, Bool, true, false, cond, List, [], ◌∷◌, ℕ, zero, suc, ◌-◌, ◌≤◌, eqb, leb, length, take, drop, Option, Some, None}
 use Rattle.std.proofs.Common.{refl, sym, ap, ◌∙◌, subst, arith, length-drop, length-append, eqb-true, leb-true, le-leb}
-use Rattle.std.proofs.Math.Option.{some, none-ne-some, some-injective}
+use Rattle.std.specs.Prelude.{Some}
+use Rattle.std.proofs.lemmas.Option.{none-some, same_Some}
 use Rattle.std.proofs.lemmas.Bool.{false≢true}
 use Rattle.std.proofs.lemmas.Option.{none-some, same_Some}
 use Rattle.ground.specs.Search.{by_test}
@@ -75,8 +76,8 @@ effect_shows u (LIV f b) w out = (refl, λ z n r t. r)
 effect_shows u (EIV b) w out = (refl, λ z n r t. first-of 8 (told (effect u (EIV b) (own u w)) out).block n r)
 effect_shows u (RDK p i f b) w out = (refl, λ z n r t. first-of 8 (told (effect u (RDK p i f b) (own u w)) out).block n r)
 effect_shows u (mode m d) w out =
-    let key = side.key.key.0 in
-    let vector = side.vector.vector.0 in
+    let key = side.key.value.0 in
+    let vector = side.vector.value.0 in
     let s = mode_text m key vector d in (
       refl,
       λ z n r t.
@@ -102,8 +103,8 @@ user_shows w u c out n r t =
     let low = (demand_1 w (by u c) out).lowest in
     by_test (eqb k 0)
     (λ e.
-    let none = low.none (ap (λ (b : Bool). number_of (after b).answer) e ∙ s.0) in
-    subst (λ (b : Bool). length (shown_in (after b)) ≤ n) (sym e) (s.1 none n r t))
+    let None = low.none (ap (λ (b : Bool). number_of (after b).answer) e ∙ s.0) in
+    subst (λ (b : Bool). length (shown_in (after b)) ≤ n) (sym e) (s.1 None n r t))
     (λ e. subst (λ (b : Bool). length (shown_in (after b)) ≤ n) (sym e) (omega arith))
 
 -- a step shows no more bytes than it returns or writes
@@ -132,9 +133,9 @@ all_three true true true rest h = (refl, refl, refl, h)
 
 -- so of the row of one tag
 fitted : (t n : ℕ) (ks : List ℕ) (c : Command) (l : List Form) (m : List Row) → fitting n l m ≡ true
-    → arguments_in t l ≡ Some ks → beside t m ≡ some c → (returned c ≤ length (spelled ks (blank 0) [])) × (written c ≤ n)
+    → arguments_in t l ≡ Some ks → beside t m ≡ Some c → (returned c ≤ length (spelled ks (blank 0) [])) × (written c ≤ n)
 fitted t n ks c [] m h a b = absurd (none-some ks a)
-fitted t n ks c (x ∷ l) [] h a b = absurd (none-ne-some c b)
+fitted t n ks c (x ∷ l) [] h a b = absurd (none-some c b)
 fitted t n ks c (x ∷ l) (y ∷ m) h a b =
     let size = length (spelled x.arguments (blank 0) []) in
     let p = all_three (eqb x.tag y.tag) (leb (returned y.command) size) (leb (written y.command) n) (fitting n l m) h in
@@ -142,7 +143,7 @@ fitted t n ks c (x ∷ l) (y ∷ m) h a b =
     by_test (eqb t y.tag)
     (λ e.
     let args : x.arguments ≡ ks = same_Some x.arguments ks (rw (tags, e) at a) in
-    let command : y.command ≡ c = some-injective y.command c (rw e at b) in
+    let command : y.command ≡ c = same_Some y.command c (rw e at b) in
     rw (← args, ← command) (leb-true (returned y.command) size p.1, leb-true (written y.command) n p.2))
     (λ e. fitted t n ks c l m p.3 (rw (tags, e) at a) (rw e at b))
 
