@@ -2,14 +2,13 @@
 use Rattle.std.specs.Prelude.{◌≡◌, refl, false}
 use Rattle.std.proofs.Common.{ap}
 use Rattle.std.specs.Prelude.{None}
-use Rattle.ground.specs.Lists.{padded}
 use Rattle.ground.specs.Rows.{row, digits}
 use Rattle.keys.specs.Keys.{odd, parity_of}
 use Rattle.stream.specs.Fields.{length_at, field_at}
-use Rattle.stream.specs.Commands.{arguments_of, form_of, has_size, blank, filled, begun, is_argument, took, read_one, read_all, ended, decoded}
+use Rattle.stream.specs.Commands.{arguments_of, has_size, blank, filled, is_argument, took, read_all, decoded}
 use Rattle.printout.specs.Digits.{hex_digit, hex_byte, decimal_in, decimal}
 use Rattle.printout.specs.Lines.{shown, line}
-use Rattle.state.specs.State.{find, all_taken, bare, give, named, key_at, rekeyed}
+use Rattle.state.specs.State.{find, all_taken, bare, give, seat_of, named, key_at, rekeyed}
 use Rattle.table.specs.Entries.{fits, id_of, entry_in, entry_of}
 use Rattle.table.specs.Passwords.{big, same}
 use Rattle.rules.specs.Commands.{RAS, by, refusals, effect, tests, keyed}
@@ -23,7 +22,6 @@ use Rattle.properties.proofs.Passwords.{ipw_stands, ras-done}
 use Rattle.session.specs.Run.{answer_to, carry_on, ran_from, transcript}
 use Rattle.programs.specs.Notary.{stream, buffer, start, notary}
 use Rattle.programs.specs.Example.{input, output, password, entered_1, enrolled_5, active_5, lines}
-use Rattle.rules.specs.World.{seat_of}
 
 stands : Stands enrolled_5 5 password
 unfolding start step tests test big fits keyed rekeyed named key_at of_own same parity_of odd digits lacks_entry entry_of entry_in id_of row
@@ -42,7 +40,7 @@ admitted =
 
 pub worked_example : notary input ≡ output
 unfolding notary stream start ran_from carry_on field_at length_at row
-    answer_to decoded ended read_all read_one took is_argument has_size filled begun blank form_of arguments_of padded performed rows
+    answer_to decoded read_all took is_argument has_size filled blank arguments_of performed rows
     step tests rule refusals mode_side effect test out_of_turn of_own big_pair big fits same parity_of odd digits
     keyed rekeyed named key_at seat_of give bare lacks_entry entry_of entry_in id_of
     transcript line decimal decimal_in hex_byte hex_digit shown

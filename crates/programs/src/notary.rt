@@ -3,7 +3,7 @@ ghost use Rattle.std.specs.Prelude.{◌≡◌};
 ghost use Rattle.printout.specs.Page.{page};
 ghost use Rattle.programs.specs.Notary.{notary, printed};
 
-use printout::page::first_of;
+use printout::page::{Page, first_of};
 use session::run::run;
 use state::places::fresh_facility;
 
@@ -14,12 +14,7 @@ pub fn print_notary(input: &[u8], paper: &mut [u8; 327680]) -> usize
     let stream = first_of(input, 65536);
     let mut output = [0u8; 32768];
     let mut table = [0xFFu8; 768];
-    let ran = run(
-        fresh_facility(),
-        &mut table,
-        &mut output,
-        stream,
-        &mut paper[..],
-    );
-    ran.filled
+    let mut page = Page::new(&mut paper[..]);
+    run(fresh_facility(), &mut table, &mut output, stream, &mut page);
+    page.filled
 }
