@@ -17,7 +17,7 @@ fn select(s: &[u8; 64], b: u64) -> u64
     u64::from(s[at as usize])
 }
 
-// A line for each box: a loop over the eight is no plainer, with their entries' bounds to carry through it.
+// A line for each box: a loop over the eight is no plainer, with a list of the boxes, a shift that is counted and an invariant.
 fn substitute(b: u64) -> u64
     ensures { (result ≡ substituted b) × (result < 2 ^ 32) }
 {
