@@ -52,7 +52,8 @@ module _ (s : Bytes) where
   last_at n ih w out (Whole tag start end) [] a rest e h =
       let v = part start end s in
       let first : answered tag (answer_to w tag v out).answered ≡ a = cc in
-      let is : number_of (answer_to w tag v out).answered.answer ≡ 17 = ap (λ (x : Answered). number_of x.told.answer) first ∙ h in
+      let is : number_of (answer_to w tag v out).answered.answer ≡ 17 =
+      ap (λ (x : Answered). number_of x.told.answer) first ∙ h in
       absurd (true≢false (sym (eq-eqb _ 17 is) ∙ not_17 w tag v out))
   last_at n ih w out (Whole tag start end) (x ∷ before) a rest e h = ih _ _ end before a rest (tails e) h
   last_at n ih w out (Cut tag) [] a rest e h = cc

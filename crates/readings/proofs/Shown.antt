@@ -171,7 +171,9 @@ all_no_shorter (k ∷ ks) a d e =
     let rest = all_no_shorter ks a d e in
     let b = argument k (blank 0) [] in
     let v = argument k a d in
-    rw (length-append (field k b) (spelled ks (blank 0) []), length-append (field k v) (spelled ks a d), field-length k b, field-length k v) (omega arith)
+    let low = length-append (field k b) (spelled ks (blank 0) []) in
+    let high = length-append (field k v) (spelled ks a d) in
+    rw (low, high, field-length k b, field-length k v) (omega arith)
 
 -- ---- an answer
 

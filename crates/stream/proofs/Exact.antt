@@ -97,7 +97,8 @@ module _ (t : ℕ) (v : Bytes) where
       let c = sound_of h in
       let up = (arguments_ordered t ks h.known).0 in
       let nothing = λ (j : ℕ) (x : among j ks ≡ false). sym (h.absent j x) in
-      let done = spelled-read t v a d c h.short 0x80 ks (begun t) (omega arith) up (λ x. refl) (blank_sound t) (omega arith) h.value nothing in
+      let start = blank_sound t in
+      let done = spelled-read t v a d c h.short 0x80 ks (begun t) (omega arith) up (λ x. refl) start (omega arith) h.value nothing in
       let q = done.reading in (
         q,
         decoded_by ks h.known ∙ rw (done.fits, eq-eqb q.at (length v) done.end),

@@ -1,8 +1,7 @@
 -- The grammar by itself: the order of each command's arguments, and the fields of a value as those of one request.
 use Rattle.std.specs.Prelude.{◌≡◌, Bool, true, false, cond, ℕ, ◌+◌, ◌≤◌, ◌<◌, eqb, ltb, leb, Some, List, [], ◌∷◌, ◌++◌, length, drop}
 use Rattle.std.proofs.Common.{refl, sym, ◌∙◌, true≢false, arith, ap, subst, length-append, eqb-true, ne_eqb, ltb-true, leb-true}
-use borrow.Author.Tests.{eqb-false}
-use Rattle.std.proofs.lemmas.Bool.{false≢true}
+use Rattle.std.proofs.lemmas.Bool.{false≢true, eqb-false}
 use Rattle.ground.specs.Search.{by_test}
 use Rattle.stream.specs.declared.Request.{Request}
 use Rattle.stream.specs.Fields.{Bytes, field, part}

@@ -1,7 +1,7 @@
 -- A command's value, read argument by argument: what fits is spelled, and what is spelled fits.
 use Rattle.std.specs.Prelude.{◌≡◌, Bool, false, true, cond, List, [], ◌∷◌, ◌++◌, ℕ, ◌+◌, ◌-◌, ◌≤◌, ◌<◌, eqb, length, drop, Some}
 use Rattle.std.proofs.Common.{refl, sym, ap, ap₂, ◌∙◌, subst, append_assoc, length-drop, eqb-true, eq-eqb, ne_eqb, arith}
-use borrow.Author.Tests.{eqb-false}
+use Rattle.std.proofs.lemmas.Bool.{eqb-false}
 use Rattle.std.proofs.lemmas.Option.{none-some, same_Some, cond_some, option_and_then_some}
 use Rattle.ground.specs.Search.{by_test}
 use Rattle.ground.specs.Lists.{Below}

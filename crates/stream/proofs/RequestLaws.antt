@@ -50,7 +50,8 @@ module _ (k : ℕ) (low : 0x80 < k) (high : k ≤ 0x87) where
   unfolding has_size filled argument
   own b a d =
       each
-      (λ (n : ℕ). has_size n (length b) ≡ true → (n < 0x83 → Below 256 b) → (n ≡ 0x87 → d ≡ b) → argument n (filled n b a) d ≡ b)
+      (λ (n : ℕ).
+      has_size n (length b) ≡ true → (n < 0x83 → Below 256 b) → (n ≡ 0x87 → d ≡ b) → argument n (filled n b a) d ≡ b)
       (λ s h e. (number_of b s (h (omega arith))).1)
       (λ s h e. (number_of b s (h (omega arith))).1)
       (λ s h e. sym (listed 1 b (eqb-true (length b) 1 s)))
