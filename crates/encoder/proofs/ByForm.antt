@@ -1,159 +1,65 @@
 -- A command's bytes by its form: the header with the size that was counted, and the argument fields.
-use Rattle.std.specs.Prelude.{◌≡◌, Bool, true, false, cond, ℕ, zero, suc, ◌+◌, ◌≤◌, ◌<◌, eqb, leb, length, take}
-use Rattle.std.proofs.Math.Path.{refl, ap₂}
-use Rattle.std.proofs.Common.{sym, ap, ◌∙◌, le_of_suc-le-suc, not-suc-le-zero, arith, take_all, length-take-le, eqb-true, ne_eqb, lt-ltb, le-ltb, leb-true, leb-false}
-use Rattle.std.proofs.Math.Option.{Option, none, some}
-use mathlib.Core.List.{List, [], ◌∷◌, ◌++◌}
-use Rattle.std.proofs.Math.ListN.{length-append}
-use Rattle.ground.specs.Lists.{padded}
+use Rattle.std.specs.Prelude.{◌≡◌, refl, Bool, true, false, cond, List, [], ◌∷◌, ◌++◌, ℕ, ◌+◌, ◌<◌, ◌≤◌, eqb, length, get_or, take, Some, None}
+use Rattle.std.specs.Int.{w32, to_be_bytes}
+use Rattle.std.proofs.Common.{ap, ap₂, ◌∙◌, arith, div-one, length-append, lt-ltb, le-ltb}
 use Rattle.ground.specs.Rows.{digits, digits-length}
-use Rattle.ground.specs.Search.{by_test}
-use Rattle.printout.specs.Page.{Page, entered, two}
+use Rattle.printout.specs.Parts.{parts_more}
 use Rattle.stream.specs.declared.Request.{Request}
-use Rattle.stream.specs.declared.Form.{Form}
 use Rattle.stream.specs.Fields.{Bytes, field}
 use Rattle.stream.proofs.FieldLaws.{field-length}
-use Rattle.stream.specs.Commands.{arguments_of, form_of}
+use Rattle.stream.specs.Commands.{arguments_of}
 use Rattle.stream.specs.Grammar.{argument, spelled}
-use Rattle.stream.specs.GrammarLaws.{ascending}
-use Rattle.stream.proofs.GrammarLaws.{above, later, arguments_ordered}
-use Rattle.encoder.specs.Encoded.{encoded_with, encoded}
-use Rattle.encoder.specs.Written.{one_field, all_fields, one_size, all_sizes, form_size}
-use Rattle.encoder.specs.ByForm.{size_by}
+use Rattle.encoder.specs.Encoded.{encoded}
+use Rattle.encoder.specs.Written.{one_size, all_sizes, counted}
 
--- ---- the argument fields, without those that are none
+pub four_bytes : (x : ℕ) → to_be_bytes w32 x ≡ digits 256 4 x
+unfolding digits
+four_bytes x = rw div-one
 
-none_there : (n : ℕ) (a : Request) (d : Bytes) → all_fields (padded n []) a d ≡ []
-unfolding padded all_fields one_field
-none_there zero a d = refl
-none_there (suc n) a d = none_there n a d
+-- one field more, as a loop puts them
+pub fields_more : (ks : List ℕ) (a : Request) (d : Bytes) (i : ℕ) → i < length ks
+    → spelled (take i ks) a d ++ field (get_or ks i 0) (argument (get_or ks i 0) a d) ≡ spelled (take (i + 1) ks) a d
+unfolding spelled
+fields_more ks a d i h = parts_more (λ k. field k (argument k a d)) (λ js. spelled js a d) refl (λ k js. refl) ks i 0 h
 
-some_there : (n m : ℕ) (ks : List ℕ) (a : Request) (d : Bytes) → ascending m ks ≡ true → length ks ≤ n → all_fields (padded n ks) a d ≡ spelled ks a d
-unfolding padded all_fields one_field spelled
-some_there n m [] a d h l = none_there n a d
-some_there zero m (k ∷ ks) a d h l = absurd (not-suc-le-zero l)
-some_there (suc n) m (k ∷ ks) a d h l =
-    let up = above m k ks h in
-    rw (ne_eqb k 0 (λ e. omega arith)) (ap (λ (r : Bytes). field k (argument k a d) ++ r) (some_there n k ks a d (later m k ks h) (le_of_suc-le-suc l)))
-
--- ---- their lengths
+-- ---- the lengths of the argument fields
 
 pick_size : (b : Bool) (x y : Bytes) (m n : ℕ) → 3 + length x ≡ m → 3 + length y ≡ n → 3 + length (cond b x y) ≡ cond b m n
 pick_size true x y m n e f = e
 pick_size false x y m n e f = f
 
-none_or : (b : Bool) (v : Bytes) (n : ℕ) → length v ≡ n → length (cond b [] v) ≡ cond b 0 n
-none_or true v n e = refl
-none_or false v n e = e
-
 module _ (a : Request) (d : Bytes) (eight : (length a.block ≡ 8) × (length a.second ≡ 8)) where
-  one_length : (k : ℕ) → length (one_field k a d) ≡ one_size k (length d)
-  unfolding one_field one_size argument
+  one_length : (k : ℕ) → length (field k (argument k a d)) ≡ one_size k (length d)
+  unfolding one_size argument
   one_length k =
-      none_or (eqb k 0) (field k (argument k a d)) _
-      (field-length k (argument k a d) ∙
+      field-length k (argument k a d) ∙
       pick_size (eqb k 0x81) _ _ _ _ (ap (λ (n : ℕ). 3 + n) (digits-length 256 4 a.issuer)) (
       pick_size (eqb k 0x82) _ _ _ _ (ap (λ (n : ℕ). 3 + n) (digits-length 256 4 a.party)) (
       pick_size (eqb k 0x83) _ _ _ _ refl (
       pick_size (eqb k 0x84) _ _ _ _ refl (
       pick_size (eqb k 0x85) _ _ _ _ (ap (λ (n : ℕ). 3 + n) eight.0) (
       pick_size (eqb k 0x86) _ _ _ _ (ap (λ (n : ℕ). 3 + n) eight.1) (
-      pick_size (eqb k 0x87) _ _ _ _ refl refl)))))))
+      pick_size (eqb k 0x87) _ _ _ _ refl refl))))))
 
-  all_length : (ks : List ℕ) → length (all_fields ks a d) ≡ all_sizes ks (length d)
-  unfolding all_fields all_sizes
+  all_length : (ks : List ℕ) → length (spelled ks a d) ≡ all_sizes ks (length d)
+  unfolding spelled all_sizes
   all_length [] = refl
-  all_length (k ∷ ks) = length-append (one_field k a d) (all_fields ks a d) ∙ ap₂ (λ (m n : ℕ). m + n) (one_length k) (all_length ks)
+  all_length (k ∷ ks) = length-append (field k (argument k a d)) (spelled ks a d) ∙ ap₂ (λ (m n : ℕ). m + n) (one_length k) (all_length ks)
 
--- ---- of too much data, how much does not matter
+-- ---- the command's bytes, with the list ks of its arguments, and the size n that was counted
 
-module _ (m n : ℕ) (h : 65536 ≤ m) where
-  one_same : (k : ℕ) → one_size k m < 65536 → one_size k n ≡ one_size k m
-  unfolding one_size
-  one_same k l =
-      by_test (eqb k 0x87)
-      (λ e. let z : 3 + m < 65536 = rw (eqb-true k 0x87 e) at l in absurd (omega arith))
-      (λ e. rw e)
+module _ (a : Request) (d : Bytes) where
+  pub unknown : arguments_of a.tag ≡ None → encoded a d ≡ []
+  unfolding encoded
+  unknown e = rw e
 
-  all_same : (ks : List ℕ) → all_sizes ks m < 65536 → all_sizes ks n ≡ all_sizes ks m
-  unfolding all_sizes
-  all_same [] l = refl
-  all_same (k ∷ ks) l = ap₂ (λ (x y : ℕ). x + y) (one_same k (omega arith)) (all_same ks (omega arith))
+  module _ (ks : List ℕ) (n : ℕ) (eight : (length a.block ≡ 8) × (length a.second ≡ 8)) (known : Some ks ≡ arguments_of a.tag) (size : n ≡ counted (all_sizes ks (length d))) where
+    pub too_long : 65536 ≤ n → encoded a d ≡ []
+    unfolding encoded
+    too_long l = let long : 65536 ≤ length (spelled ks a d) = omega (arith, all_length a d eight ks, size) in rw (← known, le-ltb (length (spelled ks a d)) 65536 long)
 
--- the data as it is counted is the data, or both are too much
-counting : (P : ℕ → ℕ → Type 0) (d : Bytes) → ((n : ℕ) → P n n) → ((m n : ℕ) → 65536 ≤ m → 65536 ≤ n → P m n) → P (length (take 65536 d)) (length d)
-counting P d same much =
-    by_test (leb (length d) 65536)
-    (λ e. rw (take_all 65536 d (leb-true (length d) 65536 e)) (same (length d)))
-    (λ e. let l = leb-false (length d) 65536 e in much (length (take 65536 d)) (length d) (omega (arith, length-take-le 65536 d (omega arith))) (omega arith))
-
-pub count_most : (x d : Bytes) → x ≡ take 65536 d → length x ≤ 65536
-count_most x d e =
-    by_test (leb (length d) 65536)
-    (λ t. let h = leb-true (length d) 65536 t in rw (e, take_all 65536 d h) h)
-    (λ t. let l = leb-false (length d) 65536 t in omega (arith, ap length e, length-take-le 65536 d (omega arith)))
-
-module _ (ks : List ℕ) (d : Bytes) where
-  counted : all_sizes ks (length (take 65536 d)) < 65536 → all_sizes ks (length d) ≡ all_sizes ks (length (take 65536 d))
-  counted = counting (λ (m n : ℕ). all_sizes ks m < 65536 → all_sizes ks n ≡ all_sizes ks m) d (λ n l. refl) (λ m n h k l. all_same m n h ks l)
-
-  too_long : 65536 ≤ all_sizes ks (length (take 65536 d)) → 65536 ≤ all_sizes ks (length d)
-  too_long =
-      counting (λ (m n : ℕ). 65536 ≤ all_sizes ks m → 65536 ≤ all_sizes ks n) d (λ n l. l)
-      (λ m n h k l.
-      by_test (leb 65536 (all_sizes ks n))
-      (λ e. leb-true 65536 (all_sizes ks n) e)
-      (λ e. let short = leb-false 65536 (all_sizes ks n) e in absurd (omega (arith, all_same n m k ks short))))
-
-module _ (a : Request) (d : Bytes) (eight : (length a.block ≡ 8) × (length a.second ≡ 8)) where
-  -- the command's bytes, as they are put
-  abbrev put : ℕ → List ℕ → Bytes
-  put n ks = (a.tag ∷ digits 256 2 n) ++ all_fields ks a d
-
-  module _ (ks : List ℕ) (known : arguments_of a.tag ≡ some ks) where
-    fields : all_fields (padded 5 ks) a d ≡ spelled ks a d
-    fields = let o = arguments_ordered a.tag ks known in some_there 5 0x80 ks a d o.0 o.1
-
-    value_length : length (spelled ks a d) ≡ all_sizes (padded 5 ks) (length d)
-    value_length = ap length (sym fields) ∙ all_length a d eight (padded 5 ks)
-
-    short_with : size_by (padded 5 ks) d < 65536 → encoded_with a d (some ks) ≡ put (size_by (padded 5 ks) d) (padded 5 ks)
-    short_with l =
-        let n : length (spelled ks a d) ≡ size_by (padded 5 ks) d = value_length ∙ counted (padded 5 ks) d l in
-        ap (λ (b : Bool). cond b (field a.tag (spelled ks a d)) []) (lt-ltb (length (spelled ks a d)) 65536 (omega (arith, n)))
-        ∙ ap₂ (λ (m : ℕ) (v : Bytes). (a.tag ∷ digits 256 2 m) ++ v) n (sym fields)
-
-    long_with : 65536 ≤ size_by (padded 5 ks) d → encoded_with a d (some ks) ≡ []
-    long_with l = ap (λ (b : Bool). cond b (field a.tag (spelled ks a d)) []) (le-ltb (length (spelled ks a d)) 65536 (omega (arith, value_length, too_long (padded 5 ks) d l)))
-
-  nothing : 65536 ≤ form_size (form_of a.tag) (length (take 65536 d)) → encoded a d ≡ []
-  unfolding form_size form_of encoded
-  nothing l = go (arguments_of a.tag) refl
-    where
-      go : (o : Option (List ℕ)) → arguments_of a.tag ≡ o → encoded_with a d (arguments_of a.tag) ≡ []
-      go none e = rw e
-      go (some ks) e = rw e (long_with ks e (rw e at l))
-
-  whole : form_size (form_of a.tag) (length (take 65536 d)) < 65536 → encoded a d ≡ put (form_size (form_of a.tag) (length (take 65536 d))) (form_of a.tag).arguments
-  unfolding form_size form_of encoded
-  whole l = go (arguments_of a.tag) refl
-    where
-      go : (o : Option (List ℕ)) → arguments_of a.tag ≡ o → encoded_with a d (arguments_of a.tag) ≡ put (form_size (form_of a.tag) (length (take 65536 d))) (form_of a.tag).arguments
-      go none e = let z : 65536 < 65536 = rw e at l in absurd (omega arith)
-      go (some ks) e = rw e (short_with ks e (rw e at l))
-
--- ---- the same, as the code comes to it: the form f, the data x that it counts, the size n
-
-module _ (a : Request) (d x : Bytes) (f : Form) (n : ℕ) (eight : (length a.block ≡ 8) × (length a.second ≡ 8)) (form : f ≡ form_of a.tag) (data_is : x ≡ take 65536 d) (size : n ≡ form_size f (length x)) where
-  same_size : n ≡ form_size (form_of a.tag) (length (take 65536 d))
-  same_size = size ∙ ap₂ (λ (g : Form) (y : Bytes). form_size g (length y)) form data_is
-
-  pub put_nothing : (p : Page) → 65536 ≤ n → p ≡ entered (encoded a d) p
-  unfolding entered
-  put_nothing p l = rw (nothing a d eight (omega (arith, same_size)))
-
-  pub put_whole : (p q r : Page) → n < 65536 → q ≡ entered (a.tag ∷ digits 256 2 n) p → r ≡ entered (all_fields f.arguments a d) q → r ≡ entered (encoded a d) p
-  put_whole p q r l e e' =
-      two (a.tag ∷ digits 256 2 n) (all_fields f.arguments a d) p q r e' e
-      ∙ ap₂ (λ (m : ℕ) (g : Form). entered ((a.tag ∷ digits 256 2 m) ++ all_fields g.arguments a d) p) same_size form
-      ∙ ap (λ (y : Bytes). entered y p) (sym (whole a d eight (omega (arith, same_size))))
+    pub whole : n < 65536 → (a.tag ∷ digits 256 2 n) ++ spelled ks a d ≡ encoded a d
+    unfolding encoded
+    whole l =
+        let same : length (spelled ks a d) ≡ n = omega (arith, all_length a d eight ks, size) in
+        rw (← known, same, lt-ltb n 65536 l)

@@ -1,2 +1,3 @@
 pub mod ByForm
+pub mod Kept
 pub mod RoundTrip

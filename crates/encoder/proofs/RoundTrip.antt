@@ -1,11 +1,10 @@
 -- Writing and decoding undo one another: what is written is read back, and what is read is written to the same bytes.
-use Rattle.std.specs.Prelude.{◌≡◌, Bool, true, [], ◌++◌, ℕ, ◌+◌, ◌-◌, ◌<◌, length, drop}
-use Rattle.std.proofs.Common.{sym, ◌∙◌, subst, append-nil, arith, take_at, lt-ltb}
-use Rattle.std.proofs.Math.Path.{ap}
-use Rattle.std.proofs.Math.Bool.{cond}
+use Rattle.std.specs.Prelude.{◌≡◌, Bool, cond, [], ◌++◌, ℕ, ◌+◌, ◌-◌, ◌<◌, length, drop, Some}
+use Rattle.std.proofs.Common.{sym, ap, ◌∙◌, subst, append-nil, arith, take_at, lt-ltb}
 use Rattle.ground.specs.Lists.{Below, below_take, below_drop}
 use Rattle.stream.specs.declared.Field.TheVariants.{Whole}
 use Rattle.stream.specs.declared.Request.{Request}
+use Rattle.stream.specs.declared.Reading.{Reading}
 use Rattle.stream.specs.Fields.{Bytes, field, part, field_at, value_at, value_whole, part_length, within}
 use Rattle.stream.proofs.FieldLaws.{field-length, field_is_whole, field_value, whole_is_field, whole_short}
 use Rattle.stream.specs.Commands.{arguments_of, decoded}
@@ -34,9 +33,10 @@ module _ (t : ℕ) (v : Bytes) (a : Request) (d : Bytes) (h : Spells t v a d) (s
       record {
         whole = whole;
         value = value_whole s at t (at + 3) (at + 3 + length v) whole ∙ field_value s at t v r stands;
-        fits = back.0;
-        asked = back.1;
-        rest = back.2;
+        reading = back.0;
+        fits = back.1;
+        asked = back.2;
+        rest = back.3;
       }
 
   -- by itself too
@@ -52,11 +52,10 @@ module _ (s : Bytes) (at tag start end : ℕ) (bytes : Below 256 s) (whole : fie
       let n : length (field tag v) ≡ end - at = field-length tag v ∙ omega (arith, part_length start end s w.1 w.2) in
       rw (value_whole s at tag start end whole, whole_is_field s at tag start end bytes whole) (take_at (field tag v) (drop end s) (end - at) n)
 
-  pub same_bytes : let r = decoded tag (value_at s at) in r.fits ≡ true → encoded r.asked (drop r.text (value_at s at)) ≡ part at end s
-  same_bytes fits =
+  pub same_bytes : (r : Reading) → decoded tag (value_at s at) ≡ Some r → encoded r.asked (drop r.text (value_at s at)) ≡ part at end s
+  same_bytes r fits =
       let v = value_at s at in
-      let r = decoded tag v in
       let is : v ≡ part start end s = value_whole s at tag start end whole in
       let small : Below 256 v = subst (Below 256) (sym is) (below_take 256 (end - start) (drop start s) (omega arith) (below_drop 256 start s bytes)) in
       let short : length v < 65536 = subst (λ (x : Bytes). length x < 65536) (sym is) (whole_short s at tag start end bytes whole) in
-      as_field tag v r.asked (drop r.text v) (fits_spells tag v small fits) short ∙ sym the_field
+      as_field tag v r.asked (drop r.text v) (fits_spells tag v small r fits) short ∙ sym the_field

@@ -1,4 +1,3 @@
 pub mod Encoded
 pub mod Written
-pub mod ByForm
 pub mod RoundTrip

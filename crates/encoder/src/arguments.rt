@@ -1,106 +1,63 @@
-// A command's arguments: each by its tag, with 0 for none.
-ghost use Rattle.std.specs.Prelude.{◌≡◌, ◌≤◌};
-ghost use Rattle.ground.specs.Rows.{digits};
-ghost use Rattle.printout.specs.Page.{page, entered};
-ghost use Rattle.encoder.specs.Written.{one_field, all_fields, one_size, all_sizes, form_size};
+// A command's arguments: each by its tag.
+ghost use Rattle.std.specs.Prelude.{◌≡◌};
+ghost use Rattle.printout.specs.Inked.{inked};
+ghost use Rattle.stream.specs.Fields.{field};
+ghost use Rattle.stream.specs.Grammar.{argument, spelled};
+ghost use Rattle.encoder.specs.Written.{one_size, all_sizes, counted};
 
 use crate::fields::put_field;
-use stream::{Form, Request};
+use printout::page::Page;
+use stream::Request;
 
-// The high byte first.
-fn four(x: u32) -> [u8; 4]
-    ensures { result ≡ digits 256 4 x }
+// Numbers with the high byte first.
+#[tactic(auto, using(crate::proofs::ByForm::four_bytes), unfolding(stream::specs::Grammar::argument))]
+fn put_argument(page: &mut Page, k: u8, asked: Request, text: &[u8])
+    ensures { page.new ≡ inked (field k (argument k asked text.now)) page.old }
 {
-    [
-        (x / 16777216 % 256) as u8,
-        (x / 65536 % 256) as u8,
-        (x / 256 % 256) as u8,
-        (x % 256) as u8,
-    ]
-}
-
-fn put_argument(paper: &mut [u8], at: usize, argument: u8, asked: Request, text: &[u8]) -> usize
-    ensures { page paper.new result ≡ entered (one_field argument asked text.now) (page paper.old at) }
-{
-    let issuer = four(asked.issuer);
-    let party = four(asked.party);
-    let interchange = [asked.interchange];
-    let function = [asked.function];
-    let block = asked.block;
-    let second = asked.second;
-    match argument {
-        0 => at,
-        0x81 => put_field(&mut paper[..], at, 0x81, &issuer),
-        0x82 => put_field(&mut paper[..], at, 0x82, &party),
-        0x83 => put_field(&mut paper[..], at, 0x83, &interchange),
-        0x84 => put_field(&mut paper[..], at, 0x84, &function),
-        0x85 => put_field(&mut paper[..], at, 0x85, &block),
-        0x86 => put_field(&mut paper[..], at, 0x86, &second),
-        0x87 => put_field(&mut paper[..], at, 0x87, text),
-        _ => put_field(&mut paper[..], at, argument, &text[..0]),
+    match k {
+        0x81 => put_field(page, k, &asked.issuer.to_be_bytes()),
+        0x82 => put_field(page, k, &asked.party.to_be_bytes()),
+        0x83 => put_field(page, k, &[asked.interchange]),
+        0x84 => put_field(page, k, &[asked.function]),
+        0x85 => put_field(page, k, &asked.block),
+        0x86 => put_field(page, k, &asked.second),
+        0x87 => put_field(page, k, text),
+        _ => put_field(page, k, &[]),
     }
 }
 
 // The argument fields of a command, one after the other.
-pub(crate) fn put_arguments(
-    paper: &mut [u8],
-    at: usize,
-    arguments: [u8; 5],
-    asked: Request,
-    text: &[u8],
-) -> usize
-    ensures { page paper.new result ≡ entered (all_fields arguments asked text.now) (page paper.old at) }
+#[tactic(auto, using(printout::specs::Inked::entries, crate::proofs::ByForm::fields_more), unfolding(stream::specs::Grammar::spelled))]
+pub(crate) fn put_arguments(page: &mut Page, arguments: &[u8], asked: Request, text: &[u8])
+    ensures { page.new ≡ inked (spelled arguments.now asked text.now) page.old }
 {
-    let mut to = at;
-    let mut i: usize = 0;
-    while i < 5 {
-        to = put_argument(&mut paper[..], to, arguments[i], asked, text);
-        i += 1;
+    for k in arguments {
+        put_argument(page, *k, asked, text);
     }
-    to
 }
 
 // The length of an argument's field, with n bytes of data.
-fn field_size(argument: u8, n: usize) -> usize
-    requires { n ≤ 65536 }
-    ensures { result ≡ one_size argument n }
+#[tactic(auto, unfolding(crate::specs::Written::one_size))]
+fn field_size(k: u8, n: usize) -> usize
+    ensures { result ≡ counted (one_size k n) }
 {
-    match argument {
-        0 => 0,
-        0x81 => 7,
-        0x82 => 7,
-        0x83 => 4,
-        0x84 => 4,
-        0x85 => 11,
-        0x86 => 11,
-        0x87 => 3 + n,
+    match k {
+        0x81 | 0x82 => 7,
+        0x83 | 0x84 => 4,
+        0x85 | 0x86 => 11,
+        0x87 => n.saturating_add(3),
         _ => 3,
     }
 }
 
 // The length of all of them.
-fn value_size(arguments: [u8; 5], n: usize) -> usize
-    requires { n ≤ 65536 }
-    ensures { result ≡ all_sizes arguments n }
+#[tactic(auto, using(crate::specs::Written::sizes_counted))]
+pub(crate) fn value_size(arguments: &[u8], n: usize) -> usize
+    ensures { result ≡ counted (all_sizes arguments.now n) }
 {
-    let mut size: usize = 0;
-    let mut i: usize = 0;
-    while i < 5 {
-        size += field_size(arguments[i], n);
-        i += 1;
+    let mut size = 0usize;
+    for k in arguments {
+        size = size.saturating_add(field_size(*k, n));
     }
     size
-}
-
-// The length of a command's value; that of an unknown tag counts as too long.
-pub(crate) fn command_size(form: Form, n: usize) -> usize
-    requires { n ≤ 65536 }
-    ensures { result ≡ form_size form n }
-{
-    let arguments = form.arguments;
-    if form.known {
-        value_size(arguments, n)
-    } else {
-        65536
-    }
 }

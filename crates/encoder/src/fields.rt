@@ -1,22 +1,23 @@
 // A field: a one-byte tag, a two-byte length, high byte first, and the value.
-ghost use Rattle.std.specs.Prelude.{◌≡◌, ◌∷◌, length};
+ghost use Rattle.std.specs.Prelude.{◌≡◌, ◌∷◌};
 ghost use Rattle.ground.specs.Rows.{digits};
 ghost use Rattle.stream.specs.Fields.{field};
-ghost use Rattle.printout.specs.Page.{page, entered};
+ghost use Rattle.printout.specs.Inked.{inked};
 
-use printout::page::put_all;
+use printout::page::Page;
 
 // The tag, and the last two bytes of the length.
-pub(crate) fn put_header(paper: &mut [u8], at: usize, tag: u8, n: usize) -> usize
-    ensures { page paper.new result ≡ entered (tag ∷ digits 256 2 n) (page paper.old at) }
+pub(crate) fn put_header(page: &mut Page, tag: u8, n: usize)
+    ensures { page.new ≡ inked (tag ∷ digits 256 2 n) page.old }
 {
-    let header = [tag, (n / 256 % 256) as u8, (n % 256) as u8];
-    put_all(&mut paper[..], at, &header)
+    let [.., high, low] = n.to_be_bytes();
+    page.put_all(&[tag, high, low]);
 }
 
-pub(crate) fn put_field(paper: &mut [u8], at: usize, tag: u8, value: &[u8]) -> usize
-    ensures { page paper.new result ≡ entered (field tag value.now) (page paper.old at) }
+#[tactic(auto, using(printout::specs::Inked::entries))]
+pub(crate) fn put_field(page: &mut Page, tag: u8, value: &[u8])
+    ensures { page.new ≡ inked (field tag value.now) page.old }
 {
-    let next = put_header(&mut paper[..], at, tag, value.len());
-    put_all(&mut paper[..], next, value)
+    put_header(page, tag, value.len());
+    page.put_all(value);
 }

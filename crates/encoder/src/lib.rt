@@ -3,29 +3,28 @@
 #![tactic(auto)]
 
 ghost use Rattle.std.specs.Prelude.{◌≡◌};
-ghost use Rattle.printout.specs.Page.{page, entered};
+ghost use Rattle.printout.specs.Inked.{inked};
 ghost use Rattle.encoder.specs.Encoded.{encoded};
 
 pub mod arguments;
 pub mod fields;
 
-use crate::arguments::{command_size, put_arguments};
+use crate::arguments::{put_arguments, value_size};
 use crate::fields::put_header;
-use printout::page::first_of;
+use printout::page::Page;
 use stream::Request;
 use stream::commands::form_of;
 
-// Nothing for an unknown tag, nor for a value too long for two bytes of length. Of the data at most 65536 bytes are counted.
-pub fn put_command(paper: &mut [u8], at: usize, asked: Request, text: &[u8]) -> usize
-    ensures { page paper.new result ≡ entered (encoded asked text.now) (page paper.old at) }
+// Nothing for an unknown tag, nor for a value too long for two bytes of length.
+pub fn put_command(page: &mut Page, asked: Request, text: &[u8])
+    ensures { page.new ≡ inked (encoded asked text.now) page.old }
 {
-    let form = form_of(asked.tag);
-    let arguments = form.arguments;
-    let size = command_size(form, first_of(text, 65536).len());
+    let Some(arguments) = form_of(asked.tag) else {
+        return;
+    };
+    let size = value_size(arguments, text.len());
     if size < 65536 {
-        let next = put_header(&mut paper[..], at, asked.tag, size);
-        put_arguments(&mut paper[..], next, arguments, asked, text)
-    } else {
-        at
+        put_header(page, asked.tag, size);
+        put_arguments(page, arguments, asked, text);
     }
 }

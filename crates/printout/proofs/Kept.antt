@@ -1,9 +1,10 @@
--- Laws of a page, of digits and of lines, by an index or part by part. They stood in specs/; the code is proved without them.
-use Rattle.std.specs.Prelude.{◌≡◌, refl, List, [], ◌∷◌, ◌++◌, ℕ, zero, suc, ◌+◌, ◌-◌, ◌*◌, ◌/◌, ◌%◌, ◌^◌, ◌≤◌, ◌<◌, length, get_or, set, take, drop}
-use Rattle.std.proofs.Common.{sym, ap, subst, ◌∙◌, append_assoc, pow-suc, arith, add-one, drop_of_length-le, drop-cons, drop_at, length-take-le}
+-- Laws of a page, of digits, of lines and of rows, by an index or part by part. They stood in specs/; the code is proved without them.
+use Rattle.std.specs.Prelude.{◌≡◌, refl, Bool, cond, List, [], ◌∷◌, ◌++◌, ℕ, zero, suc, ◌+◌, ◌-◌, ◌*◌, ◌/◌, ◌%◌, ◌^◌, ◌≤◌, ◌<◌, length, get_or, set, take, drop}
+use Rattle.std.proofs.Common.{sym, ap, ne_eqb, subst, ◌∙◌, append_assoc, pow-suc, arith, add-one, drop_of_length-le, drop-cons, drop_at, length-take-le}
 use Rattle.std.proofs.lemmas.List.{set_split}
 use Rattle.printout.specs.Page.{Page, entered, then, two}
 use Rattle.printout.specs.Digits.{hex_byte, hex, last_digit, decimal, decimal-last, decimal_step}
+use Rattle.printout.specs.Rows.{Row, beside}
 use Rattle.printout.specs.Lines.{space, line_feed, shown, line}
 
 -- ---- a text letter by letter
@@ -84,3 +85,23 @@ by_parts ordinal tag reply bs p p₁ p₂ p₃ p₄ p₅ p₆ p₇ p₈ e₁ e�
     let f₃ = two (hex_byte tag) (space ∷ (decimal reply ++ (space ∷ (shown bs ++ (line_feed ∷ []))))) p₂ p₃ p₈ f₄ e₃ in
     let f₂ = two (space ∷ []) (hex_byte tag ++ (space ∷ (decimal reply ++ (space ∷ (shown bs ++ (line_feed ∷ [])))))) p₁ p₂ p₈ f₃ e₂ in
     two (decimal ordinal) (space ∷ (hex_byte tag ++ (space ∷ (decimal reply ++ (space ∷ (shown bs ++ (line_feed ∷ []))))))) p p₁ p₈ f₂ e₁
+
+-- ---- where a number's row is known, and where it has none
+
+-- T, and n is none of the rows' numbers: what is known in the last arm of a match on n, nested as the checker nests it
+abbrev pub Apart : Type 0 → ℕ → List Row → Type 0
+Apart T n [] = T
+Apart T n (r ∷ rs) = Apart (T × (n ≡ r.number → ⊥)) n rs
+
+apart_others : (T : Type 0) (n : ℕ) (rs : List Row) (others : List ℕ) → Apart T n rs → T × (beside n rs others ≡ others)
+apart_others T n [] others h = (h, refl)
+apart_others T n (r ∷ rs) others h =
+    let later = apart_others (T × (n ≡ r.number → ⊥)) n rs others h in
+    (later.0.0, ap (λ (b : Bool). cond b r.words (beside n rs others)) (ne_eqb n r.number later.0.1) ∙ later.1)
+
+module _ (rs : List Row) (others : List ℕ) (n : ℕ) (p q : Page) where
+  pub by_row : (k : ℕ) (t : List ℕ) → n ≡ k → beside k rs others ≡ t → q ≡ entered t p → q ≡ entered (beside n rs others) p
+  by_row k t e b h = h ∙ ap (λ (ws : List ℕ). entered ws p) (sym (ap (λ (m : ℕ). beside m rs others) e ∙ b))
+
+  pub by_none : (T : Type 0) → Apart T n rs → q ≡ entered others p → q ≡ entered (beside n rs others) p
+  by_none T h e = e ∙ ap (λ (ws : List ℕ). entered ws p) (sym (apart_others T n rs others h).1)

@@ -1,7 +1,0 @@
-use native.Mathlib.Nat.{div-one}
-use Rattle.ground.specs.Rows.{digits}
-use Rattle.encoder.proofs.arguments.four.Goals as goal
-
-pub returns : goal.returns
-unfolding digits
-returns c = rw div-one
