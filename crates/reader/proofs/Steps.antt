@@ -25,17 +25,20 @@ module _ (l kept ends : List ℕ) where
       → ended_line l (read_words l kept ends r (drop i ks)) ≡ wrong_line at x
   unfolding ended_line wrong_line
   word_wrong r ks i at x h e =
-      ap (ended_line l) (sym (word_more r ks i h) ∙ ap (λ (q : Line). read_words l kept ends q (drop (i + 1) ks)) (sym e) ∙ wrong_read (drop (i + 1) ks) at x)
+      ap (ended_line l)
+      (sym (word_more r ks i h) ∙ ap (λ (q : Line). read_words l kept ends q (drop (i + 1) ks)) (sym e) ∙ wrong_read (drop (i + 1) ks) at x)
 
   pub words_read : (r : Line) (ks : List ℕ) (i : ℕ) → length ks ≤ i → read_words l kept ends r (drop i ks) ≡ r
   unfolding read_words
   words_read r ks i h = rw (drop_of_length-le ks h)
 
   -- the fields of a command, where its form is found
-  pub form_read : (t at : ℕ) (r : Line) (o : Option (Bor (List ℕ))) (fs d : Bor (List ℕ)) → r ≡ so_far Command t at (source Letters 0 0) → fs ≡ unwrap_or o d → d.now ≡ []
-      → option_copied o ≡ arguments_of t → ended_line l (read_words l kept ends r fs.now) ≡ command_line t l kept ends at
+  pub form_read : (t at : ℕ) (r : Line) (o : Option (Bor (List ℕ))) (fs d : Bor (List ℕ)) → r ≡ so_far Command t at (source Letters 0 0)
+      → fs ≡ unwrap_or o d → d.now ≡ [] → option_copied o ≡ arguments_of t → ended_line l (read_words l kept ends r fs.now) ≡ command_line t l kept ends at
   unfolding command_line
-  form_read t at r o fs d e f g h = ap₂ (λ (q : Line) (ks : List ℕ). ended_line l (read_words l kept ends q ks)) e (ap (λ (s : Bor (List ℕ)). s.now) f ∙ found o g ∙ ap (λ (x : Option (List ℕ)). unwrap_or x []) h)
+  form_read t at r o fs d e f g h =
+      ap₂ (λ (q : Line) (ks : List ℕ). ended_line l (read_words l kept ends q ks)) e
+      (ap (λ (s : Bor (List ℕ)). s.now) f ∙ found o g ∙ ap (λ (x : Option (List ℕ)). unwrap_or x []) h)
     where
       found : (o : Option (Bor (List ℕ))) → d.now ≡ [] → (unwrap_or o d).now ≡ unwrap_or (option_copied o) []
       found None q = q
@@ -52,8 +55,14 @@ module _ (l : List ℕ) where
   turn_more r i h = let k : length l - i ≡ suc (length l - (i + 1)) = omega arith in rw k
 
   pub turn_wrong : (r : Line) (i at : ℕ) (x : Expected) → i < length l → wrong_line at x ≡ raw_turn l r → raw_turns l (length l - i) r ≡ wrong_line at x
-  turn_wrong r i at x h e = sym (turn_more r i h) ∙ ap (raw_turns l (length l - (i + 1))) (sym e) ∙ wrong_turned (length l - (i + 1)) at x
+  turn_wrong r i at x h e =
+      sym (turn_more r i h) ∙ ap (raw_turns l (length l - (i + 1))) (sym e) ∙ wrong_turned (length l - (i + 1)) at x
 
   pub turns_done : (r : Line) (n : ℕ) → n ≡ 0 → raw_turns l n r ≡ r
   unfolding raw_turns
   turns_done r n h = rw h
+
+-- what the two loops are proved with
+pub ruleset words = (form_read, word_more, word_wrong, words_read)
+
+pub ruleset turns = (turn_more, turn_wrong, turns_done)

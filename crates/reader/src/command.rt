@@ -48,21 +48,15 @@ pub fn end_line(line: &[u8], r: Line) -> Result<Line, Wrong>
     ensures { line_as result ≡ ended_line line.now (line_as (Ok r)) }
 {
     match word_at(line, r.at) {
-        Word::PlainWord { start, .. } => Err(Wrong {
-            at: start,
-            expected: Expected::NothingMore,
-        }),
-        Word::TextWord { start, .. } => Err(Wrong {
-            at: quote_before(start),
-            expected: Expected::NothingMore,
-        }),
+        Word::PlainWord { start, .. } => Err(Wrong::at(start, Expected::NothingMore)),
+        Word::TextWord { start, .. } => Err(Wrong::at(quote_before(start), Expected::NothingMore)),
         Word::Broken { at, expected } => Err(Wrong { at, expected }),
         Word::NoWord { .. } => Ok(r),
     }
 }
 
 // One word for each field of the command, in ascending tags, and nothing else.
-#[tactic(auto, using(crate::proofs::Steps::word_more, crate::proofs::Steps::word_wrong, crate::proofs::Steps::words_read))]
+#[tactic(auto, using(crate::proofs::Steps::words))]
 pub fn command_line(tag: u8, line: &[u8], answers: Answers, at: usize) -> Result<Line, Wrong>
     ensures { line_as result ≡ command_line tag line.now answers.entry.kept.now answers.entry.ends.now at }
 {

@@ -17,18 +17,12 @@ fn raw_hex(line: &[u8], r: Line, start: usize, end: usize) -> Result<Line, Wrong
 {
     let digits = run_end(line, start, Class::Hex);
     if digits < end {
-        return Err(Wrong {
-            at: digits,
-            expected: Expected::RawBytes,
-        });
+        return Err(Wrong::at(digits, Expected::RawBytes));
     }
     if span(start, end) % 2 == 0 {
         Ok(Line::so_far(Says::Raw, 0, end, r.bytes))
     } else {
-        Err(Wrong {
-            at: end,
-            expected: Expected::RawBytes,
-        })
+        Err(Wrong::at(end, Expected::RawBytes))
     }
 }
 
@@ -38,16 +32,13 @@ fn raw_turn(line: &[u8], r: Line) -> Result<Line, Wrong>
 {
     match word_at(line, r.at) {
         Word::PlainWord { start, end } => raw_hex(line, r, start, end),
-        Word::TextWord { start, .. } => Err(Wrong {
-            at: quote_before(start),
-            expected: Expected::RawBytes,
-        }),
+        Word::TextWord { start, .. } => Err(Wrong::at(quote_before(start), Expected::RawBytes)),
         Word::Broken { at, expected } => Err(Wrong { at, expected }),
         Word::NoWord { at } => Ok(Line::so_far(Says::Raw, 0, at, r.bytes)),
     }
 }
 
-#[tactic(auto, using(crate::proofs::Steps::turn_more, crate::proofs::Steps::turn_wrong, crate::proofs::Steps::turns_done))]
+#[tactic(auto, using(crate::proofs::Steps::turns))]
 fn raw_turns(line: &[u8], r: Line) -> Result<Line, Wrong>
     ensures { line_as result ≡ raw_turns line.now (length line.now) (line_as (Ok r)) }
 {
@@ -72,14 +63,8 @@ pub fn raw_line(line: &[u8], at: usize) -> Result<Line, Wrong>
             };
             raw_turns(line, Line::so_far(Says::Raw, 0, at, bytes))
         }
-        Word::TextWord { start, .. } => Err(Wrong {
-            at: quote_before(start),
-            expected: Expected::RawBytes,
-        }),
+        Word::TextWord { start, .. } => Err(Wrong::at(quote_before(start), Expected::RawBytes)),
         Word::Broken { at, expected } => Err(Wrong { at, expected }),
-        Word::NoWord { at } => Err(Wrong {
-            at,
-            expected: Expected::RawBytes,
-        }),
+        Word::NoWord { at } => Err(Wrong::at(at, Expected::RawBytes)),
     }
 }

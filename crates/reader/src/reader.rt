@@ -33,10 +33,7 @@ fn started(
 ) -> Result<Line, Wrong>
     ensures { line_as result ≡ started_line line.now answers.entry.kept.now answers.entry.ends.now from at (start_as first) }
 {
-    let begins = first.ok_or(Wrong {
-        at: from,
-        expected: Expected::Name,
-    })?;
+    let begins = first.ok_or(Wrong::at(from, Expected::Name))?;
     match begins {
         FirstWord::Command(tag) => command_line(tag, line, answers, at),
         FirstWord::Raw => raw_line(line, at),
@@ -59,10 +56,7 @@ pub fn read_line(line: &[u8], answers: Answers) -> Result<Line, Wrong>
             end,
             start_of(part_of(line, start, end)),
         ),
-        Word::TextWord { start, .. } => Err(Wrong {
-            at: quote_before(start),
-            expected: Expected::Name,
-        }),
+        Word::TextWord { start, .. } => Err(Wrong::at(quote_before(start), Expected::Name)),
         Word::Broken { at, expected } => Err(Wrong { at, expected }),
         Word::NoWord { at } => Ok(Line::so_far(Says::Nothing, 0, at, NO_BYTES)),
     }

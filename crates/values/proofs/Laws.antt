@@ -1,6 +1,6 @@
 -- Eight bytes from a page of eight, and numbers of one byte and of four.
 use Rattle.std.proofs.Common.{◌≡◌, refl, ap, false, List, [], ◌∷◌, ℕ, ◌%◌, ◌^◌, ◌≤◌, ◌<◌, ltb, length, replicate, arith, le-ltb}
-use native.Mathlib.Nat.{pow-zero, div-one}
+use Rattle.std.proofs.Math.Nat.{pow-zero, div-one}
 use Rattle.ground.specs.Lists.{padded}
 use Rattle.ground.specs.Rows.{row, digits, row-digits}
 use Rattle.printout.specs.Page.{Page, page, letter, entered}
@@ -20,7 +20,8 @@ eight_padded (a ∷ b ∷ c ∷ d ∷ []) = refl
 eight_padded (a ∷ b ∷ c ∷ d ∷ e ∷ []) = refl
 eight_padded (a ∷ b ∷ c ∷ d ∷ e ∷ f ∷ []) = refl
 eight_padded (a ∷ b ∷ c ∷ d ∷ e ∷ f ∷ g ∷ []) = refl
-eight_padded (a ∷ b ∷ c ∷ d ∷ e ∷ f ∷ g ∷ h ∷ xs) = ap (λ (p : Page). p.letters) (full xs (page (a ∷ b ∷ c ∷ d ∷ e ∷ f ∷ g ∷ h ∷ []) 8) (omega arith))
+eight_padded (a ∷ b ∷ c ∷ d ∷ e ∷ f ∷ g ∷ h ∷ xs) =
+    ap (λ (p : Page). p.letters) (full xs (page (a ∷ b ∷ c ∷ d ∷ e ∷ f ∷ g ∷ h ∷ []) 8) (omega arith))
 
 pub one_byte : (n : ℕ) → digits 256 1 n ≡ n % 256 ∷ []
 unfolding digits

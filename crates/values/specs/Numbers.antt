@@ -33,12 +33,18 @@ read_below n i w e =
     let m : n * 1 ≤ n * 10 ^ length ds = mul-le-mul_left n one in
     omega (arith, s, m)
 
+pub none_read : (w : List ℕ) → row 10 0 (map digit_value w) ≡ decimal_value w
+unfolding decimal_value
+none_read w = refl
+
 -- one digit more, d
 pub digit_more : (n i d : ℕ) (w : List ℕ) → row 10 n (map digit_value (drop i w)) ≡ decimal_value w → i < length w → d ≡ digit_value (get_or w i 0)
     → row 10 (n * 10 + d) (map digit_value (drop (i + 1) w)) ≡ decimal_value w
-digit_more n i d w e h f = ap (λ (x : ℕ). row 10 (n * 10 + x) (map digit_value (drop (i + 1) w))) f ∙ sym (row-map-step 10 n digit_value w i h) ∙ e
+digit_more n i d w e h f =
+    ap (λ (x : ℕ). row 10 (n * 10 + x) (map digit_value (drop (i + 1) w))) f ∙ sym (row-map-step 10 n digit_value w i h) ∙ e
 
-pub digits_read : (n i : ℕ) (w : List ℕ) → row 10 n (map digit_value (drop i w)) ≡ decimal_value w → length w ≤ i → n ≡ decimal_value w
+pub digits_read : (n i : ℕ) (w : List ℕ) → row 10 n (map digit_value (drop i w)) ≡ decimal_value w
+    → length w ≤ i → n ≡ decimal_value w
 digits_read n i w e h = sym (row-map_end 10 n digit_value w i h) ∙ e
 
 pub above_limit : (limit n : ℕ) → limit < n → up_to limit n ≡ record { within = false; number = 0 }
@@ -50,8 +56,12 @@ unfolding up_to
 within_limit limit n h = rw (le-leb n limit h)
 
 -- with one digit more it is above the limit
-pub digit_above : (limit n i : ℕ) (w : List ℕ) → row 10 n (map digit_value (drop i w)) ≡ decimal_value w → i < length w → limit < n * 10 + digit_value (get_or w i 0)
+pub digit_above : (limit n i : ℕ) (w : List ℕ) → row 10 n (map digit_value (drop i w)) ≡ decimal_value w → i < length w
+    → limit < n * 10 + digit_value (get_or w i 0)
     → up_to limit (decimal_value w) ≡ record { within = false; number = 0 }
 digit_above limit n i w e h f =
     let k = read_below (n * 10 + digit_value (get_or w i 0)) (i + 1) w (digit_more n i (digit_value (get_or w i 0)) w e h refl) in
     above_limit limit (decimal_value w) (omega arith)
+
+-- what the code that reads digits one by one is proved with
+pub ruleset reading = (none_read, digit_more, digits_read, digit_above, above_limit, within_limit)

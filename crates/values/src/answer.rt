@@ -36,10 +36,7 @@ fn answer_block(start: usize, from: Source) -> Result<Value, Wrong>
     if span(from.start, from.end) == 8 {
         Ok(Value::of_bytes(from))
     } else {
-        Err(Wrong {
-            at: start,
-            expected: Expected::Block,
-        })
+        Err(Wrong::at(start, Expected::Block))
     }
 }
 
@@ -50,10 +47,7 @@ fn answer_data(start: usize, from: Source) -> Result<Value, Wrong>
     if from.start < from.end {
         data_of(start, span(from.start, from.end), from)
     } else {
-        Err(Wrong {
-            at: start,
-            expected: Expected::Bytes,
-        })
+        Err(Wrong::at(start, Expected::Bytes))
     }
 }
 
@@ -78,10 +72,7 @@ pub fn answer_value(eight: bool, answers: Answers, at: usize, digits: Part) -> R
         return Err(Wrong { at: stop, expected });
     }
     if digits.end <= digits.start {
-        return Err(Wrong {
-            at: digits.start,
-            expected,
-        });
+        return Err(Wrong::at(digits.start, expected));
     }
     let wrong = Wrong { at, expected };
     let n = number_up_to(digits.letters(), u32::MAX).ok_or(wrong)?;

@@ -15,18 +15,12 @@ fn hex_block(word: Part) -> Result<Value, Wrong>
 {
     let digits = run_end(word.line, word.start, Class::Hex);
     if span(word.start, digits) < 16 {
-        return Err(Wrong {
-            at: digits,
-            expected: Expected::Block,
-        });
+        return Err(Wrong::at(digits, Expected::Block));
     }
     if span(word.start, word.end) == 16 {
         Ok(Value::of_bytes(word.source(Origin::HexDigits)))
     } else {
-        Err(Wrong {
-            at: word.start + 16,
-            expected: Expected::Block,
-        })
+        Err(Wrong::at(word.start + 16, Expected::Block))
     }
 }
 
@@ -38,10 +32,7 @@ pub fn data_of(start: usize, n: usize, from: Source) -> Result<Value, Wrong>
     if n <= 65500 {
         Ok(Value::of_bytes(from))
     } else {
-        Err(Wrong {
-            at: start,
-            expected: Expected::FewerBytes,
-        })
+        Err(Wrong::at(start, Expected::FewerBytes))
     }
 }
 
@@ -51,19 +42,13 @@ fn hex_data(word: Part) -> Result<Value, Wrong>
 {
     let digits = run_end(word.line, word.start, Class::Hex);
     if digits < word.end {
-        return Err(Wrong {
-            at: digits,
-            expected: Expected::Bytes,
-        });
+        return Err(Wrong::at(digits, Expected::Bytes));
     }
     let n = span(word.start, word.end);
     if n % 2 == 0 {
         data_of(word.start, n / 2, word.source(Origin::HexDigits))
     } else {
-        Err(Wrong {
-            at: word.end,
-            expected: Expected::Bytes,
-        })
+        Err(Wrong::at(word.end, Expected::Bytes))
     }
 }
 

@@ -39,10 +39,7 @@ fn plain_value(field: u8, answers: Answers, word: Part) -> Result<Value, Wrong>
         0x84 => function_value(word),
         0x85 | 0x86 => bytes_value(true, answers, word),
         0x87 => bytes_value(false, answers, word),
-        _ => Err(Wrong {
-            at: word.start,
-            expected: Expected::NothingMore,
-        }),
+        _ => Err(Wrong::at(word.start, Expected::NothingMore)),
     }
 }
 
@@ -59,10 +56,7 @@ fn text_value(field: u8, start: usize, end: usize) -> Result<Value, Wrong>
         };
         data_of(at, span(start, end), from)
     } else {
-        Err(Wrong {
-            at,
-            expected: expected_for(field),
-        })
+        Err(Wrong::at(at, expected_for(field)))
     }
 }
 
@@ -75,10 +69,7 @@ pub fn value_of(field: u8, line: &[u8], answers: Answers, word: Word) -> Result<
         Word::PlainWord { start, end } => plain_value(field, answers, Part { line, start, end }),
         Word::TextWord { start, end } => text_value(field, start, end),
         Word::Broken { at, expected } => Err(Wrong { at, expected }),
-        Word::NoWord { at } => Err(Wrong {
-            at,
-            expected: expected_for(field),
-        }),
+        Word::NoWord { at } => Err(Wrong::at(at, expected_for(field))),
     }
 }
 

@@ -23,9 +23,6 @@ pub fn function_value(word: Part) -> Result<Value, Wrong>
     if span(word.start, word.end) == 1 && is_function(letter) {
         Ok(Value::numeric(u32::from(letter)))
     } else {
-        Err(Wrong {
-            at: word.start,
-            expected: Expected::Function,
-        })
+        Err(Wrong::at(word.start, Expected::Function))
     }
 }

@@ -11,8 +11,11 @@ pub mod numbers;
 pub mod sources;
 
 ghost use Rattle.std.specs.Prelude.{◌≡◌, Ok};
+ghost use Rattle.stream.specs.Fields.{part};
 ghost use Rattle.values.specs.Values.{numeric, fitting};
 ghost use Rattle.values.specs.Results.{value_as};
+
+use crate::sources::part_of;
 
 // Where bytes come from: hex digits, the words of raw bytes, or letters of the line; or an answer.
 #[derive(Clone, Copy)]
@@ -49,6 +52,24 @@ pub struct Part<'a> {
     pub line: &'a [u8],
     pub start: usize,
     pub end: usize,
+}
+
+impl<'a> Part<'a> {
+    fn letters(self) -> &'a [u8]
+        ensures { result.now ≡ part self.entry.start self.entry.end self.entry.line.now }
+    {
+        part_of(self.line, self.start, self.end)
+    }
+
+    fn source(self, from: Origin) -> Source
+        ensures { result ≡ record { from = from; start = self.entry.start; end = self.entry.end } }
+    {
+        Source {
+            from,
+            start: self.start,
+            end: self.end,
+        }
+    }
 }
 
 // A word as a field's value, a number or bytes.

@@ -9,6 +9,7 @@ use words::letters::run_end;
 use words::{Class, Expected, Wrong};
 
 // The number that the digits say, if it is at most the limit.
+#[tactic(auto, using(crate::specs::Numbers::reading))]
 pub fn number_up_to(digits: &[u8], limit: u32) -> Option<u32>
     ensures { upto_as result ≡ up_to limit (decimal_value digits.now) }
 {
@@ -18,7 +19,7 @@ pub fn number_up_to(digits: &[u8], limit: u32) -> Option<u32>
             .checked_mul(10)?
             .checked_add(u32::from(digit.saturating_sub(b'0')))?;
     }
-    if n <= limit { Some(n) } else { None }
+    (n <= limit).then_some(n)
 }
 
 // The word as a number up to the limit.
@@ -28,14 +29,8 @@ pub fn number_value(expected: Expected, limit: u32, word: Part) -> Result<Value,
 {
     let digits = run_end(word.line, word.start, Class::Digit);
     if digits < word.end {
-        return Err(Wrong {
-            at: digits,
-            expected,
-        });
+        return Err(Wrong::at(digits, expected));
     }
-    let number = number_up_to(word.letters(), limit).ok_or(Wrong {
-        at: word.start,
-        expected,
-    })?;
+    let number = number_up_to(word.letters(), limit).ok_or(Wrong::at(word.start, expected))?;
     Ok(Value::numeric(number))
 }

@@ -5,7 +5,7 @@ ghost use Rattle.stream.specs.Fields.{part};
 ghost use Rattle.values.specs.Sources.{raw_from, meant};
 
 use crate::hex::put_unhexed;
-use crate::{Origin, Part, Source};
+use crate::{Origin, Source};
 use printout::page::Page;
 use words::Word;
 use words::split::word_at;
@@ -18,26 +18,8 @@ pub fn part_of(s: &[u8], start: usize, end: usize) -> &[u8]
     if start <= end { &s[start..end] } else { &[] }
 }
 
-impl<'a> Part<'a> {
-    pub fn letters(self) -> &'a [u8]
-        ensures { result.now ≡ part self.entry.start self.entry.end self.entry.line.now }
-    {
-        part_of(self.line, self.start, self.end)
-    }
-
-    pub fn source(self, from: Origin) -> Source
-        ensures { result ≡ record { from = from; start = self.entry.start; end = self.entry.end } }
-    {
-        Source {
-            from,
-            start: self.start,
-            end: self.end,
-        }
-    }
-}
-
 // The bytes of all plain words from there on: a line has at most as many words as letters.
-#[tactic(auto, using(crate::proofs::Bytes::raw_more, crate::proofs::Bytes::raw_none))]
+#[tactic(auto, using(crate::proofs::Bytes::raw_more, crate::proofs::Bytes::raw_none, crate::proofs::Bytes::raw_ends))]
 fn put_raw(page: &mut Page, line: &[u8], start: usize)
     ensures { page.new ≡ inked (raw_from (length line.now) line.now start) page.old }
 {

@@ -5,6 +5,8 @@
 pub mod letters;
 pub mod split;
 
+ghost use Rattle.std.specs.Prelude.{◌≡◌};
+
 // Kinds of letters: blank; those of a plain word; those of a text; digits; hex digits.
 #[derive(Clone, Copy)]
 pub enum Class {
@@ -45,4 +47,12 @@ pub enum Expected {
 pub struct Wrong {
     pub at: usize,
     pub expected: Expected,
+}
+
+impl Wrong {
+    pub fn at(at: usize, expected: Expected) -> Wrong
+        ensures { result ≡ record { at = at; expected = expected } }
+    {
+        Wrong { at, expected }
+    }
 }
