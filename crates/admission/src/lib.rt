@@ -23,10 +23,10 @@ pub fn ras(f: Facility, table: &[u8], issuer: u32, password: [u8; 8]) -> Result<
     refuse(!is_fit(table.len()), Refusal::TableLength)?;
     refuse(seat_of(f, issuer).is_some(), Refusal::AlreadyActive)?;
     let key = held(current_key(f, 1), Refusal::Interchange)?;
-    refuse(f.due, Refusal::OutOfTurn)?;
+    refuse(f.due, Refusal::OutOfTurn)?; // RPW comes first
     refuse(is_shut_to(f, issuer), Refusal::AllTaken)?;
-    let authentic = is_authentic(table, key, issuer, password);
-    refuse(!authentic, Refusal::NotAuthenticated)?;
+    let known = is_authentic(table, key, issuer, password);
+    refuse(!known, Refusal::NotAuthenticated)?;
     Ok(done(keep(f, issuer, nothing_held())))
 }
 
