@@ -1,8 +1,9 @@
 -- A line shows no more bytes than its command's value has.
-use Rattle.std.specs.Prelude.{◌≡◌, refl, Bool, true, false, cond, List, [], ◌∷◌, ℕ, zero, suc, ◌-◌, ◌≤◌, eqb, leb, length, take, drop}
-use Rattle.std.proofs.Common.{sym, ap, ◌∙◌, subst, arith, length-drop, length-append, eqb-true, leb-true, le-leb}
-use Rattle.std.proofs.lemmas.Bool.{false≢true}
+use Rattle.std.specs.Prelude.{◌≡◌, Bool, true, false, cond, List, [], ◌∷◌, ℕ, zero, suc, ◌-◌, ◌≤◌, eqb, leb, length, take, drop, Option, Some, None}
+use Rattle.std.proofs.Common.{refl, sym, ap, ◌∙◌, subst, arith, length-drop, length-append, eqb-true, leb-true, le-leb}
 use Rattle.std.proofs.Math.Option.{some, none-ne-some, some-injective}
+use Rattle.std.proofs.lemmas.Bool.{false≢true}
+use Rattle.std.proofs.lemmas.Option.{none-some, same_Some}
 use Rattle.ground.specs.Search.{by_test}
 use Rattle.ground.specs.Lists.{Below}
 use Rattle.ground.specs.Rows.{digits, digits-length}
@@ -11,11 +12,12 @@ use Rattle.cipher.specs.declared.modes.Mode.TheVariants.{Ecbe, Ecbd, Cbce, Cbcd,
 use Rattle.cipher.specs.Cipher.{mode_text, onto}
 use Rattle.cipher.proofs.Promise.{mode_text-length}
 use Rattle.stream.specs.declared.Request.{Request}
+use Rattle.stream.specs.declared.Reading.{Reading}
 use Rattle.stream.specs.Fields.{Bytes, field}
 use Rattle.stream.proofs.FieldLaws.{field-length}
 use Rattle.stream.specs.Commands.{Row as Form, commands, arguments_in, arguments_of, blank, decoded}
 use Rattle.stream.specs.Grammar.{argument, spelled, Spells}
-use Rattle.stream.proofs.Exact.{fits_spells, spells_fits}
+use Rattle.stream.proofs.Exact.{fits_spells}
 use Rattle.rules.specs.Commands.{UserCommand, RAS, LAU, CPW, GDK, LDK, GIV, LIV, EIV, RDK, mode, DAUT, Command, by, EIK, IPW, RPW, logout, refusals, refused, effect, tests}
 use Rattle.state.specs.declared.Side.{Side}
 use Rattle.rules.specs.World.{World, Own, own, shut_for}
@@ -43,7 +45,8 @@ unless true h = h
 unless false h = refl
 
 -- where 12 does not hold, the data is whole blocks
-whole_blocks : (m : Mode) (u : ℕ) (d : Bytes) (room : ℕ) (shut : Bool) (o : Own) → holds 12 (refusals u (mode m d) room shut o) ≡ false → bad_blocks (length d) ≡ false
+whole_blocks : (m : Mode) (u : ℕ) (d : Bytes) (room : ℕ) (shut : Bool) (o : Own)
+    → holds 12 (refusals u (mode m d) room shut o) ≡ false → bad_blocks (length d) ≡ false
 unfolding refusals
 whole_blocks Ecbe u d room shut o h = unless _ h
 whole_blocks Ecbd u d room shut o h = unless _ h
@@ -57,7 +60,8 @@ Shows : ℕ → UserCommand → World → Bytes → Type 0
 Shows u c w out =
     let after = told (effect u c (own u w)) out in
     (number_of after.answer ≡ 0)
-    × (((k : ℕ) → holds k (tests (by u c) w out) ≡ false) → (n : ℕ) → users_returned c ≤ n → users_written c ≤ n → length (shown_in after) ≤ n)
+    × (((k : ℕ) → holds k (tests (by u c) w out) ≡ false)
+    → (n : ℕ) → users_returned c ≤ n → users_written c ≤ n → length (shown_in after) ≤ n)
 
 effect_shows : (u : ℕ) (c : UserCommand) (w : World) (out : Bytes) → Shows u c w out
 unfolding Shows effect tests refusals
@@ -71,8 +75,14 @@ effect_shows u (LIV f b) w out = (refl, λ z n r t. r)
 effect_shows u (EIV b) w out = (refl, λ z n r t. first-of 8 (told (effect u (EIV b) (own u w)) out).block n r)
 effect_shows u (RDK p i f b) w out = (refl, λ z n r t. first-of 8 (told (effect u (RDK p i f b) (own u w)) out).block n r)
 effect_shows u (mode m d) w out =
-    let s = mode_text m side.key.key.0 side.vector.vector.0 d in
-    (refl, λ z n r t. first-of (length s) (onto s out) n (omega (arith, t, mode_text-length m side.key.key.0 side.vector.vector.0 d (good_blocks (length d) (whole_blocks m u d (length out) (shut_for u w) (own u w) (z 12))))))
+    let key = side.key.key.0 in
+    let vector = side.vector.vector.0 in
+    let s = mode_text m key vector d in (
+      refl,
+      λ z n r t.
+          let whole = good_blocks (length d) (whole_blocks m u d (length out) (shut_for u w) (own u w) (z 12)) in
+          first-of (length s) (onto s out) n (omega (arith, t, mode_text-length m key vector d whole)),
+    )
   where
     side : Side
     side = mode_side m (own u w).seat.holdings
@@ -81,7 +91,8 @@ effect_shows u (DAUT f d) w out = (refl, λ z n r t. first-of 8 (told (effect u 
 none_shown : (k n : ℕ) (w w' : World) (out : Bytes) → length (shown_in (settled k w out w').answered) ≤ n
 none_shown k n w w' out = by_test (eqb k 0) (λ e. rw e (omega arith)) (λ e. rw e (omega arith))
 
-user_shows : (w : World) (u : ℕ) (c : UserCommand) (out : Bytes) (n : ℕ) → users_returned c ≤ n → users_written c ≤ n → length (shown_in (step_by w u c out).answered) ≤ n
+user_shows : (w : World) (u : ℕ) (c : UserCommand) (out : Bytes) (n : ℕ) → users_returned c ≤ n → users_written c ≤ n
+    → length (shown_in (step_by w u c out).answered) ≤ n
 unfolding Shows rule step
 user_shows w u c out n r t =
     let k = first_of (refusals u c (length out) (shut_for u w) (own u w)) in
@@ -90,11 +101,14 @@ user_shows w u c out n r t =
     let s = effect_shows u c w out in
     let low = (demand_1 w (by u c) out).lowest in
     by_test (eqb k 0)
-    (λ e. subst (λ (b : Bool). length (shown_in (after b)) ≤ n) (sym e) (s.1 (low.none (ap (λ (b : Bool). number_of (after b).answer) e ∙ s.0)) n r t))
+    (λ e.
+    let none = low.none (ap (λ (b : Bool). number_of (after b).answer) e ∙ s.0) in
+    subst (λ (b : Bool). length (shown_in (after b)) ≤ n) (sym e) (s.1 none n r t))
     (λ e. subst (λ (b : Bool). length (shown_in (after b)) ≤ n) (sym e) (omega arith))
 
 -- a step shows no more bytes than it returns or writes
-shows : (w : World) (c : Command) (out : Bytes) (n : ℕ) → returned c ≤ n → written c ≤ n → length (shown_in (step w c out).answered) ≤ n
+shows : (w : World) (c : Command) (out : Bytes) (n : ℕ) → returned c ≤ n → written c ≤ n
+    → length (shown_in (step w c out).answered) ≤ n
 unfolding step
 shows w (by u c) out n r t = user_shows w u c out n r t
 shows w (EIK i b) out n r t = none_shown (first_of (tests (EIK i b) w out)) n w _ out
@@ -109,29 +123,32 @@ rows_fit q d =
     let z : leb 0 (length d) ≡ true = le-leb 0 (length d) (omega arith) in
     simp (e, z)
 
-all_three : (b₁ b₂ b₃ rest : Bool) → cond b₁ (cond b₂ (cond b₃ rest false) false) false ≡ true → (b₁ ≡ true) × (b₂ ≡ true) × (b₃ ≡ true) × (rest ≡ true)
+all_three : (b₁ b₂ b₃ rest : Bool) → cond b₁ (cond b₂ (cond b₃ rest false) false) false ≡ true
+    → (b₁ ≡ true) × (b₂ ≡ true) × (b₃ ≡ true) × (rest ≡ true)
 all_three false b₂ b₃ rest h = absurd (false≢true h)
 all_three true false b₃ rest h = absurd (false≢true h)
 all_three true true false rest h = absurd (false≢true h)
 all_three true true true rest h = (refl, refl, refl, h)
 
 -- so of the row of one tag
-fitted : (t n : ℕ) (ks : List ℕ) (c : Command) (l : List Form) (m : List Row) → fitting n l m ≡ true → arguments_in t l ≡ some ks → beside t m ≡ some c
-    → (returned c ≤ length (spelled ks (blank 0) [])) × (written c ≤ n)
-fitted t n ks c [] m h a b = absurd (none-ne-some ks a)
+fitted : (t n : ℕ) (ks : List ℕ) (c : Command) (l : List Form) (m : List Row) → fitting n l m ≡ true
+    → arguments_in t l ≡ Some ks → beside t m ≡ some c → (returned c ≤ length (spelled ks (blank 0) [])) × (written c ≤ n)
+fitted t n ks c [] m h a b = absurd (none-some ks a)
 fitted t n ks c (x ∷ l) [] h a b = absurd (none-ne-some c b)
 fitted t n ks c (x ∷ l) (y ∷ m) h a b =
-    let p = all_three (eqb x.tag y.tag) (leb (returned y.command) (length (spelled x.arguments (blank 0) []))) (leb (written y.command) n) (fitting n l m) h in
+    let size = length (spelled x.arguments (blank 0) []) in
+    let p = all_three (eqb x.tag y.tag) (leb (returned y.command) size) (leb (written y.command) n) (fitting n l m) h in
     let tags : x.tag ≡ y.tag = eqb-true x.tag y.tag p.0 in
     by_test (eqb t y.tag)
     (λ e.
-    let args : x.arguments ≡ ks = some-injective x.arguments ks (rw (tags, e) at a) in
+    let args : x.arguments ≡ ks = same_Some x.arguments ks (rw (tags, e) at a) in
     let command : y.command ≡ c = some-injective y.command c (rw e at b) in
-    rw (← args, ← command) (leb-true (returned y.command) (length (spelled x.arguments (blank 0) [])) p.1, leb-true (written y.command) n p.2))
+    rw (← args, ← command) (leb-true (returned y.command) size p.1, leb-true (written y.command) n p.2))
     (λ e. fitted t n ks c l m p.3 (rw (tags, e) at a) (rw e at b))
 
 -- a field of any request is no shorter than the same field of the blank one
-no_shorter : (k : ℕ) (a : Request) (d : Bytes) → (length a.block ≡ 8) × (length a.second ≡ 8) → length (argument k (blank 0) []) ≤ length (argument k a d)
+no_shorter : (k : ℕ) (a : Request) (d : Bytes) → (length a.block ≡ 8) × (length a.second ≡ 8)
+    → length (argument k (blank 0) []) ≤ length (argument k a d)
 unfolding argument blank
 no_shorter k a d e =
     by_test (eqb k 0x81) (λ h. rw h (omega (arith, digits-length 256 4 0, digits-length 256 4 a.issuer))) (λ h₁.
@@ -140,31 +157,43 @@ no_shorter k a d e =
     by_test (eqb k 0x84) (λ h. rw (h₁, h₂, h₃, h) (omega arith)) (λ h₄.
     by_test (eqb k 0x85) (λ h. rw (h₁, h₂, h₃, h₄, h) (omega (arith, e.0))) (λ h₅.
     by_test (eqb k 0x86) (λ h. rw (h₁, h₂, h₃, h₄, h₅, h) (omega (arith, e.1))) (λ h₆.
-    by_test (eqb k 0x87) (λ h. rw (h₁, h₂, h₃, h₄, h₅, h₆, h) (omega arith)) (λ h. rw (h₁, h₂, h₃, h₄, h₅, h₆, h) (omega arith))))))))
+    by_test (eqb k 0x87)
+    (λ h. rw (h₁, h₂, h₃, h₄, h₅, h₆, h) (omega arith))
+    (λ h. rw (h₁, h₂, h₃, h₄, h₅, h₆, h) (omega arith))))))))
 
-all_no_shorter : (ks : List ℕ) (a : Request) (d : Bytes) → (length a.block ≡ 8) × (length a.second ≡ 8) → length (spelled ks (blank 0) []) ≤ length (spelled ks a d)
+all_no_shorter : (ks : List ℕ) (a : Request) (d : Bytes) → (length a.block ≡ 8) × (length a.second ≡ 8)
+    → length (spelled ks (blank 0) []) ≤ length (spelled ks a d)
 unfolding spelled
 all_no_shorter [] a d e = omega arith
 all_no_shorter (k ∷ ks) a d e =
     let one = no_shorter k a d e in
     let rest = all_no_shorter ks a d e in
-    rw (length-append (field k (argument k (blank 0) [])) (spelled ks (blank 0) []), length-append (field k (argument k a d)) (spelled ks a d), field-length k (argument k (blank 0) []), field-length k (argument k a d)) (omega arith)
+    let b = argument k (blank 0) [] in
+    let v = argument k a d in
+    let low = length-append (field k b) (spelled ks (blank 0) []) in
+    let high = length-append (field k v) (spelled ks a d) in
+    rw (low, high, field-length k b, field-length k v) (omega arith)
 
 -- ---- an answer
 
 -- a line shows no more bytes than the value has
-pub shows_no_more : (w : World) (t : ℕ) (v out : Bytes) → Below 256 v → length (shown_in (answer_to w t v out).answered) ≤ length v
+pub shows_no_more : (w : World) (t : ℕ) (v out : Bytes) → Below 256 v
+    → length (shown_in (answer_to w t v out).answered) ≤ length v
 unfolding answer_to arguments_of
 shows_no_more w t v out bytes =
-    by_test (decoded t v).fits (λ h. spelt (decoded t v).asked (drop (decoded t v).text v) (fits_spells t v bytes h)) unspelt
+    by_reading (decoded t v) refl
   where
-    spelt : (a : Request) (d : Bytes) → Spells t v a d → length (shown_in (answer_to w t v out).answered) ≤ length v
-    spelt a d h =
+    spelt : (r : Reading) → Spells t v r.asked (drop r.text v) → length (shown_in (answer_to w t v out).answered) ≤ length v
+    spelt r h =
+        let a = r.asked in
+        let d = drop r.text v in
         let c = spelled_step w t v out a d h in
-        let f = fitted a.tag (length d) h.arguments c.0 commands (rows a d) (rows_fit a d) (ap arguments_of h.tagged ∙ h.known) c.1 in
+        let known = ap arguments_of h.tagged ∙ h.known in
+        let f = fitted a.tag (length d) h.arguments c.0 commands (rows a d) (rows_fit a d) known c.1 in
         let size : length v ≡ length (spelled h.arguments a d) = ap length h.value in
-        let data-size : length d ≡ length v - (decoded t v).text = ap length (sym (spells_fits t v a d h).2) ∙ length-drop (decoded t v).text v in
+        let data-size : length d ≡ length v - r.text = length-drop r.text v in
         rw c.2 (shows w c.0 out (length v) (omega (arith, f.0, all_no_shorter h.arguments a d h.eight)) (omega (arith, f.1)))
 
-    unspelt : (decoded t v).fits ≡ false → length (shown_in (answer_to w t v out).answered) ≤ length v
-    unspelt h = rw h (omega arith)
+    by_reading : (o : Option Reading) → decoded t v ≡ o → length (shown_in (answer_to w t v out).answered) ≤ length v
+    by_reading None e = rw e (omega arith)
+    by_reading (Some r) e = spelt r (fits_spells t v bytes r e)

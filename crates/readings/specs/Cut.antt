@@ -1,7 +1,5 @@
 -- "A header or value that runs past the input's end is 17, and reading stops": what is cut is answered 17, and nothing else is.
-use Rattle.std.specs.Prelude.{◌≡◌, Bool, true, false, cond, eqb, length, get_or}
-use mathlib.Core.List.{List, [], ◌∷◌, ◌++◌}
-use Prim.Native.Nat.{ℕ, ◌+◌, ◌<◌}
+use Rattle.std.specs.Prelude.{◌≡◌, Bool, true, false, cond, eqb, length, get_or, List, [], ◌∷◌, ◌++◌, ℕ, ◌+◌, ◌<◌}
 use Rattle.stream.specs.declared.Field.TheVariants.{Whole, Cut}
 use Rattle.stream.specs.Fields.{Bytes, length_at, field_at}
 use Rattle.rules.specs.Step.{number_of}
@@ -34,4 +32,6 @@ has17 (a ∷ rest) = cond (eqb (number_of a.told.answer) 17) true (has17 rest)
 
 -- behind an answer 17 comes no other
 abbrev pub Last : List Answered → Type 0
-Last answers = (before : List Answered) (a : Answered) (rest : List Answered) → answers ≡ before ++ a ∷ rest → number_of a.told.answer ≡ 17 → rest ≡ []
+Last answers =
+    (before : List Answered) (a : Answered) (rest : List Answered) → answers ≡ before ++ a ∷ rest
+    → number_of a.told.answer ≡ 17 → rest ≡ []

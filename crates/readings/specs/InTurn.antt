@@ -30,4 +30,6 @@ in_turn (c ∷ cs) last w out =
 
 -- what one part leaves and answers, and then what the next does in the world that it left
 unfoldable pub next : Ran → (World → Bytes → Ran) → Ran
-next r more = ran (more r.world r.output).world (more r.world r.output).output (r.answers ++ (more r.world r.output).answers)
+next r more =
+    let q = more r.world r.output in
+    ran q.world q.output (r.answers ++ q.answers)

@@ -45,5 +45,7 @@ fitting n [] (y ∷ m) = false
 fitting n (x ∷ l) [] = false
 fitting n (x ∷ l) (y ∷ m) =
     cond (eqb x.tag y.tag)
-    (cond (leb (returned y.command) (length (spelled x.arguments (blank 0) []))) (cond (leb (written y.command) n) (fitting n l m) false) false)
+    (cond (leb (returned y.command) (length (spelled x.arguments (blank 0) [])))
+    (cond (leb (written y.command) n) (fitting n l m) false)
+    false)
     false

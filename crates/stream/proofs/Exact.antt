@@ -1,5 +1,5 @@
 -- The decoder accepts exactly the grammar's values, and each value has one reading.
-use Rattle.std.specs.Prelude.{◌≡◌, ◌↔◌, List, ◌++◌, ℕ, ◌<◌, eqb, length, drop, Option, Some, None, option_and_then}
+use Rattle.std.specs.Prelude.{◌≡◌, ◌↔◌, false, List, ◌++◌, ℕ, ◌<◌, eqb, length, drop, Option, Some, None, option_and_then}
 use Rattle.std.proofs.Common.{refl, sym, ap, ap₂, ◌∙◌, subst, append-nil, drop_of_length-le, eqb-true, eq-eqb, arith}
 use Rattle.std.proofs.lemmas.Option.{none-some, cond_some, option_and_then_some}
 use Rattle.ground.specs.Search.{by_test}
@@ -27,13 +27,17 @@ module _ (t : ℕ) (v : Bytes) (a a' : Request) (d d' : Bytes) (h : Spells t v a
       let e' = h'.known in
       let one : h'.arguments ≡ h.arguments = cc in
       by_test (among k h.arguments)
-      (λ x. same_fields t a a' d d' (sound_of h) (sound_of h') 0x80 h.arguments (omega arith) (arguments_ordered t h.arguments e).0
+      (λ x.
+      let up = (arguments_ordered t h.arguments e).0 in
+      same_fields t a a' d d' (sound_of h) (sound_of h') 0x80 h.arguments (omega arith) up
       (sym h.value ∙ h'.value ∙ ap (λ (ks : List ℕ). spelled ks a' d') one) k x)
       (λ x. h.absent k x ∙ sym (h'.absent k (ap (among k) one ∙ x)))
 
   pub one_reading : (a ≡ a') × (d ≡ d')
   one_reading =
-      (same_request t a a' d d' (sound_of h) (sound_of h') each_field, same_data t a a' d d' (sound_of h) (sound_of h') each_field)
+      let c = sound_of h in
+      let c' = sound_of h' in
+      (same_request t a a' d d' c c' each_field, same_data t a a' d d' c c' each_field)
 
 -- ---- the decoder, by the arguments of its command
 
@@ -47,7 +51,8 @@ module _ (t : ℕ) (v : Bytes) where
     unfolding decoded
     decoded_by = rw known
 
-    whole_spells : Below 256 v → (q : Reading) → read_all v (begun t) ks ≡ Some q → q.at ≡ length v → Spells t v q.asked (drop q.text v)
+    whole_spells : Below 256 v → (q : Reading) → read_all v (begun t) ks ≡ Some q → q.at ≡ length v
+        → Spells t v q.asked (drop q.text v)
     whole_spells bytes q h end =
         let up = (arguments_ordered t ks known).0 in
         let read = fits_read t v bytes 0x80 ks (begun t) q (omega arith) up (λ x. refl) (blank_sound t) (omega arith) h in
@@ -70,7 +75,8 @@ module _ (t : ℕ) (v : Bytes) where
     known_spells bytes r h =
         option_and_then_some (ended (length v)) (read_all v (begun t) ks) r (sym decoded_by ∙ h) λ q read last.
         let z = cond_some (eqb q.at (length v)) q r last in
-        subst (λ (x : Reading). Spells t v x.asked (drop x.text v)) z.1 (whole_spells bytes q read (eqb-true q.at (length v) z.0))
+        let whole = whole_spells bytes q read (eqb-true q.at (length v) z.0) in
+        subst (λ (x : Reading). Spells t v x.asked (drop x.text v)) z.1 whole
 
   -- ---- the decoder and the grammar
 
@@ -84,12 +90,15 @@ module _ (t : ℕ) (v : Bytes) where
       go (Some ks) e = known_spells ks e bytes r h
 
   -- a command's value is taken, with its request and its data
-  pub spells_fits : (a : Request) (d : Bytes) → Spells t v a d → (r : Reading) × (decoded t v ≡ Some r) × (r.asked ≡ a) × (drop r.text v ≡ d)
+  pub spells_fits : (a : Request) (d : Bytes) → Spells t v a d
+      → (r : Reading) × (decoded t v ≡ Some r) × (r.asked ≡ a) × (drop r.text v ≡ d)
   spells_fits a d h =
       let ks = h.arguments in
       let c = sound_of h in
       let up = (arguments_ordered t ks h.known).0 in
-      let done = spelled-read t v a d c h.short 0x80 ks (begun t) (omega arith) up (λ x. refl) (blank_sound t) (omega arith) h.value (λ j x. sym (h.absent j x)) in
+      let nothing = λ (j : ℕ) (x : among j ks ≡ false). sym (h.absent j x) in
+      let start = blank_sound t in
+      let done = spelled-read t v a d c h.short 0x80 ks (begun t) (omega arith) up (λ x. refl) start (omega arith) h.value nothing in
       let q = done.reading in (
         q,
         decoded_by ks h.known ∙ rw (done.fits, eq-eqb q.at (length v) done.end),
@@ -99,8 +108,12 @@ module _ (t : ℕ) (v : Bytes) where
 
   -- refused is what has no reading
   pub misfit : Below 256 v → decoded t v ≡ None ↔ ((a : Request) (d : Bytes) → Spells t v a d → ⊥)
-  misfit bytes = (λ e a d h. let x = spells_fits a d h in none-some x.0 (sym e ∙ x.1), λ none-fits. go none-fits (decoded t v) refl)
+  misfit bytes = (
+    λ e a d h. let x = spells_fits a d h in none-some x.0 (sym e ∙ x.1),
+    λ none-fits. go none-fits (decoded t v) refl,
+  )
     where
-      go : ((a : Request) (d : Bytes) → Spells t v a d → ⊥) → (o : Option Reading) → decoded t v ≡ o → decoded t v ≡ None
+      go : ((a : Request) (d : Bytes) → Spells t v a d → ⊥)
+          → (o : Option Reading) → decoded t v ≡ o → decoded t v ≡ None
       go none-fits None e = e
       go none-fits (Some r) e = absurd (none-fits r.asked (drop r.text v) (fits_spells bytes r e))

@@ -1,8 +1,7 @@
 -- The grammar by itself: the order of each command's arguments, and the fields of a value as those of one request.
 use Rattle.std.specs.Prelude.{◌≡◌, Bool, true, false, cond, ℕ, ◌+◌, ◌≤◌, ◌<◌, eqb, ltb, leb, Some, List, [], ◌∷◌, ◌++◌, length, drop}
 use Rattle.std.proofs.Common.{refl, sym, ◌∙◌, true≢false, arith, ap, subst, length-append, eqb-true, ne_eqb, ltb-true, leb-true}
-use borrow.Author.Tests.{eqb-false}
-use Rattle.std.proofs.lemmas.Bool.{false≢true}
+use Rattle.std.proofs.lemmas.Bool.{false≢true, eqb-false}
 use Rattle.ground.specs.Search.{by_test}
 use Rattle.stream.specs.declared.Request.{Request}
 use Rattle.stream.specs.Fields.{Bytes, field, part}
@@ -46,7 +45,8 @@ not-among n (k ∷ ks) j h l =
     let u = above n k ks h in
     rw (ne_eqb j k (λ e. omega arith)) (not-among k ks j (later n k ks h) (omega arith))
 
-row-ordered : (t : ℕ) (rs : List Row) (ks : List ℕ) → ordered rs ≡ true → arguments_in t rs ≡ Some ks → (ascending 0x80 ks ≡ true) × (length ks ≤ 5)
+row-ordered : (t : ℕ) (rs : List Row) (ks : List ℕ) → ordered rs ≡ true → arguments_in t rs ≡ Some ks
+    → (ascending 0x80 ks ≡ true) × (length ks ≤ 5)
 unfolding ordered
 row-ordered t [] ks h e = cc
 row-ordered t (r ∷ rs) ks h e =
@@ -87,9 +87,11 @@ module _ (t : ℕ) (a a' : Request) (d d' : Bytes) (c : Sound t a) (c' : Sound t
       (λ e.
       let m = sized k (omega arith) high t a d c in
       let m' = sized k (omega arith) high t a' d' c' in
-      one_size_lem k (omega arith) high (length (argument k a d)) (length (argument k a' d')) (omega (arith, eqb-false k 0x87 e)) m m')
+      let shorter : k < 0x87 = omega (arith, eqb-false k 0x87 e) in
+      one_size_lem k (omega arith) high (length (argument k a d)) (length (argument k a' d')) shorter m m')
 
-  pub same_fields : (n : ℕ) (ks : List ℕ) → 0x80 ≤ n → ascending n ks ≡ true → spelled ks a d ≡ spelled ks a' d' → (j : ℕ) → among j ks ≡ true → argument j a d ≡ argument j a' d'
+  pub same_fields : (n : ℕ) (ks : List ℕ) → 0x80 ≤ n → ascending n ks ≡ true → spelled ks a d ≡ spelled ks a' d'
+      → (j : ℕ) → among j ks ≡ true → argument j a d ≡ argument j a' d'
   unfolding spelled among
   same_fields n [] base up h j x = absurd (false≢true x)
   same_fields n (k ∷ ks) base up h j x =
@@ -100,8 +102,10 @@ module _ (t : ℕ) (a a' : Request) (d d' : Bytes) (c : Sound t a) (c' : Sound t
       let r = spelled ks a d in
       let r' = spelled ks a' d' in
       let l : length b ≡ length b' = same_length n k ks base up h in
-      let value : b ≡ b' = sym (field_value s 0 k b r refl) ∙ ap (λ (m : ℕ). part 3 (3 + m) s) l ∙ field_value s 0 k b' r' h in
-      let rest : r ≡ r' = sym (field_rest s 0 k b r refl) ∙ ap (λ (m : ℕ). drop (3 + m) s) l ∙ field_rest s 0 k b' r' h in
+      let value : b ≡ b' =
+      sym (field_value s 0 k b r refl) ∙ ap (λ (m : ℕ). part 3 (3 + m) s) l ∙ field_value s 0 k b' r' h in
+      let rest : r ≡ r' =
+      sym (field_rest s 0 k b r refl) ∙ ap (λ (m : ℕ). drop (3 + m) s) l ∙ field_rest s 0 k b' r' h in
       by_test (eqb j k)
       (λ e. rw (eqb-true j k e) value)
       (λ e. same_fields k ks (omega arith) (later n k ks up) rest j (rw e at x))

@@ -1,16 +1,16 @@
 -- A command's value, read argument by argument: what fits is spelled, and what is spelled fits.
 use Rattle.std.specs.Prelude.{◌≡◌, Bool, false, true, cond, List, [], ◌∷◌, ◌++◌, ℕ, ◌+◌, ◌-◌, ◌≤◌, ◌<◌, eqb, length, drop, Some}
 use Rattle.std.proofs.Common.{refl, sym, ap, ap₂, ◌∙◌, subst, append_assoc, length-drop, eqb-true, eq-eqb, ne_eqb, arith}
-use borrow.Author.Tests.{eqb-false}
+use Rattle.std.proofs.lemmas.Bool.{eqb-false}
 use Rattle.std.proofs.lemmas.Option.{none-some, same_Some, cond_some, option_and_then_some}
 use Rattle.ground.specs.Search.{by_test}
-use Rattle.ground.specs.Lists.{Below, below_take, below_drop}
+use Rattle.ground.specs.Lists.{Below}
 use Rattle.stream.specs.declared.Field.{Field}
 use Rattle.stream.specs.declared.Field.TheVariants.{Whole, Cut, End}
 use Rattle.stream.specs.declared.Request.{Request}
 use Rattle.stream.specs.declared.Reading.{Reading}
 use Rattle.stream.specs.Fields.{Bytes, field, part, field_at, part_length, within}
-use Rattle.stream.proofs.FieldLaws.{part_none, whole_is_field, whole_short, field_is_whole, field_value, field_rest}
+use Rattle.stream.proofs.FieldLaws.{part_none, part_bytes, whole_is_field, whole_short, field_is_whole, field_value, field_rest}
 use Rattle.stream.specs.Commands.{has_size, is_argument, argument_is, took, read_all}
 use Rattle.stream.specs.Grammar.{argument, spelled, among}
 use Rattle.stream.specs.RequestLaws.{Sound}
@@ -20,7 +20,8 @@ use Rattle.stream.proofs.GrammarLaws.{neither, above, up_to, later, not-among}
 use Rattle.stream.specs.ReadLaws.{said, tells, taken, Read, Done}
 
 module _ (v : Bytes) (r : Reading) (k : ℕ) where
-  read_whole : (s e : ℕ) → field_at v r.at ≡ Whole k s e → has_size k (e - s) ≡ true → took v r k (field_at v r.at) ≡ Some (taken v r k s e)
+  read_whole : (s e : ℕ) → field_at v r.at ≡ Whole k s e → has_size k (e - s) ≡ true
+      → took v r k (field_at v r.at) ≡ Some (taken v r k s e)
   unfolding took is_argument
   read_whole s e f size = rw (f, eq-eqb k k refl, size)
 
@@ -46,7 +47,9 @@ module _ (v : Bytes) (r : Reading) (k s e : ℕ) (low : 0x80 < k) (high : k ≤ 
   next_other j n z =
       other k low high (part s e v) r.asked (said v (taken v r k s e)) j n
       ∙ by_test (eqb k 0x87)
-      (λ q. no_data j r.asked (said v (taken v r k s e)) (said v r) (subst (λ (m : ℕ). eqb j m ≡ false) (eqb-true k 0x87 q) n))
+      (λ q.
+      let apart = subst (λ (m : ℕ). eqb j m ≡ false) (eqb-true k 0x87 q) n in
+      no_data j r.asked (said v (taken v r k s e)) (said v r) apart)
       (λ q.
       let h : k < 0x87 = omega (arith, eqb-false k 0x87 q) in
       ap (argument j r.asked) (next-blank h ∙ sym (z h)))
@@ -57,12 +60,10 @@ module _ (v : Bytes) (r : Reading) (k s e : ℕ) (low : 0x80 < k) (high : k ≤ 
         own k low high (part s e v) r.asked (said v (taken v r k s e)) size bytes
         (λ q. ap (λ (b : Bool). part (cond b s e) e v) (eq-eqb k 0x87 q))
 
-part_bytes : (s e : ℕ) (v : Bytes) → Below 256 v → Below 256 (part s e v)
-part_bytes s e v h = below_take 256 (e - s) (drop s v) (omega arith) (below_drop 256 s v h)
-
 module _ (t : ℕ) (v : Bytes) (all-bytes : Below 256 v) where
   -- one field more before those read
-  module _ (n k : ℕ) (ks : List ℕ) (r : Reading) (s e : ℕ) (base : 0x80 ≤ n) (up : ascending n (k ∷ ks) ≡ true) (clear : n < 0x87 → said v r ≡ [])
+  module _ (n k : ℕ) (ks : List ℕ) (r : Reading) (s e : ℕ)
+      (base : 0x80 ≤ n) (up : ascending n (k ∷ ks) ≡ true) (clear : n < 0x87 → said v r ≡ [])
       (whole : field_at v r.at ≡ Whole k s e) (size : has_size k (e - s) ≡ true) where
     low : 0x80 < k
     low = let u = above n k ks up in omega arith
@@ -71,7 +72,8 @@ module _ (t : ℕ) (v : Bytes) (all-bytes : Below 256 v) where
     length-fits = let w = within v r.at k s e whole in ap (has_size k) (part_length s e v w.1 w.2) ∙ size
 
     step_sound : Sound t r.asked → Sound t (taken v r k s e).asked
-    step_sound c = stays_sound k low (up_to n k ks up) t (part s e v) r.asked length-fits (λ h. part_bytes s e v all-bytes) c
+    step_sound c =
+        stays_sound k low (up_to n k ks up) t (part s e v) r.asked length-fits (λ h. part_bytes s e v all-bytes) c
 
     step_short : length (said v (taken v r k s e)) < 65536
     step_short =
@@ -84,7 +86,8 @@ module _ (t : ℕ) (v : Bytes) (all-bytes : Below 256 v) where
     before q read =
         let high = up_to n k ks up in
         let own-value = next-own v r k s e low high length-fits (λ h. part_bytes s e v all-bytes) in
-        let mine : tells v q k ≡ part s e v = read.others k (not-among k ks k (later n k ks up) (omega arith)) ∙ own-value in
+        let apart = not-among k ks k (later n k ks up) (omega arith) in
+        let mine : tells v q k ≡ part s e v = read.others k apart ∙ own-value in
         record {
           bytes = whole_is_field v r.at k s e all-bytes whole
               ∙ ap₂ (λ (x y : Bytes). field k x ++ y) (sym mine) read.bytes
@@ -97,11 +100,13 @@ module _ (t : ℕ) (v : Bytes) (all-bytes : Below 256 v) where
           short = read.short;
         }
 
-  pub fits_read : (n : ℕ) (ks : List ℕ) (r q : Reading) → 0x80 ≤ n → ascending n ks ≡ true → (n < 0x87 → said v r ≡ []) → Sound t r.asked → length (said v r) < 65536
+  pub fits_read : (n : ℕ) (ks : List ℕ) (r q : Reading) → 0x80 ≤ n → ascending n ks ≡ true
+      → (n < 0x87 → said v r ≡ []) → Sound t r.asked → length (said v r) < 65536
       → read_all v r ks ≡ Some q → Read t v ks r q
   unfolding read_all spelled
   fits_read n [] r q base up clear c l h =
-      subst (λ (x : Reading). Read t v [] r x) (same_Some r q h) (record { bytes = refl; others = λ j x. refl; sound = c; short = l })
+      let none : Read t v [] r r = record { bytes = refl; others = λ j x. refl; sound = c; short = l } in
+      subst (λ (x : Reading). Read t v [] r x) (same_Some r q h) none
   fits_read n (k ∷ ks) r q base up clear c l h =
       option_and_then_some (λ (x : Reading). read_all v x ks) (took v r k (field_at v r.at)) q h λ x one rest.
       let u = above n k ks up in
@@ -116,7 +121,8 @@ module _ (t : ℕ) (v : Bytes) (all-bytes : Below 256 v) where
       (subst (λ (y : Reading). read_all v y ks ≡ Some q) is rest))
 
 module _ (t : ℕ) (v : Bytes) (a : Request) (d : Bytes) (proper : Sound t a) (small : length d < 65536) where
-  pub spelled-read : (n : ℕ) (ks : List ℕ) (r : Reading) → 0x80 ≤ n → ascending n ks ≡ true → (n < 0x87 → said v r ≡ []) → Sound t r.asked
+  pub spelled-read : (n : ℕ) (ks : List ℕ) (r : Reading) → 0x80 ≤ n → ascending n ks ≡ true
+      → (n < 0x87 → said v r ≡ []) → Sound t r.asked
       → r.at ≤ length v → drop r.at v ≡ spelled ks a d → ((j : ℕ) → among j ks ≡ false → tells v r j ≡ argument j a d)
       → Done t v a d (read_all v r ks)
   unfolding read_all spelled among
@@ -130,7 +136,8 @@ module _ (t : ℕ) (v : Bytes) (a : Request) (d : Bytes) (proper : Sound t a) (s
       let high = up_to n k ks up in
       let s = r.at + 3 in
       let e = r.at + 3 + length b in
-      let whole : field_at v r.at ≡ Whole k s e = field_is_whole v r.at k b (spelled ks a d) (short_argument k low high t a d proper small) h in
+      let short = short_argument k low high t a d proper small in
+      let whole : field_at v r.at ≡ Whole k s e = field_is_whole v r.at k b (spelled ks a d) short h in
       let value : part s e v ≡ b = field_value v r.at k b (spelled ks a d) h in
       let size : has_size k (length (part s e v)) ≡ true = rw value (sized k low high t a d proper) in
       let bytes : k < 0x83 → Below 256 (part s e v) = λ x. rw value (in_bytes k low high a d x) in

@@ -18,7 +18,8 @@ next n k low f g =
     (λ e. g (leb-false k (suc n) e))
 
 -- what holds of each of the tags 81 to 87 holds of any between
-module _ (P : ℕ → Type 0) (p₁ : P 0x81) (p₂ : P 0x82) (p₃ : P 0x83) (p₄ : P 0x84) (p₅ : P 0x85) (p₆ : P 0x86) (p₇ : P 0x87) where
+module _ (P : ℕ → Type 0)
+    (p₁ : P 0x81) (p₂ : P 0x82) (p₃ : P 0x83) (p₄ : P 0x84) (p₅ : P 0x85) (p₆ : P 0x86) (p₇ : P 0x87) where
   pub each : (k : ℕ) → 0x80 < k → k ≤ 0x87 → P k
   each k low high =
       next 0x80 k low (λ e. subst P (sym e) p₁) λ l₁.
@@ -37,15 +38,20 @@ blank_sound t = record { tagged = refl; issued = omega arith; partied = omega ar
 
 number_of : (b : Bytes) → eqb (length b) 4 ≡ true → Below 256 b → (row 256 0 b < 256 ^ 4) × (digits 256 4 (row 256 0 b) ≡ b)
 number_of b e h =
-    let n = eqb-true (length b) 4 e in
-    (subst (λ (m : ℕ). row 256 0 b < 256 ^ m) n (row_lt 256 b h), subst (λ (m : ℕ). digits 256 m (row 256 0 b) ≡ b) n (digits-row 256 0 b h))
+    let n = eqb-true (length b) 4 e in (
+      subst (λ (m : ℕ). row 256 0 b < 256 ^ m) n (row_lt 256 b h),
+      subst (λ (m : ℕ). digits 256 m (row 256 0 b) ≡ b) n (digits-row 256 0 b h),
+    )
 
 module _ (k : ℕ) (low : 0x80 < k) (high : k ≤ 0x87) where
   -- it is what the request then says of that field
-  pub own : (b : Bytes) (a : Request) (d : Bytes) → has_size k (length b) ≡ true → (k < 0x83 → Below 256 b) → (k ≡ 0x87 → d ≡ b) → argument k (filled k b a) d ≡ b
+  pub own : (b : Bytes) (a : Request) (d : Bytes) → has_size k (length b) ≡ true
+      → (k < 0x83 → Below 256 b) → (k ≡ 0x87 → d ≡ b) → argument k (filled k b a) d ≡ b
   unfolding has_size filled argument
   own b a d =
-      each (λ (n : ℕ). has_size n (length b) ≡ true → (n < 0x83 → Below 256 b) → (n ≡ 0x87 → d ≡ b) → argument n (filled n b a) d ≡ b)
+      each
+      (λ (n : ℕ).
+      has_size n (length b) ≡ true → (n < 0x83 → Below 256 b) → (n ≡ 0x87 → d ≡ b) → argument n (filled n b a) d ≡ b)
       (λ s h e. (number_of b s (h (omega arith))).1)
       (λ s h e. (number_of b s (h (omega arith))).1)
       (λ s h e. sym (listed 1 b (eqb-true (length b) 1 s)))
@@ -56,23 +62,33 @@ module _ (k : ℕ) (low : 0x80 < k) (high : k ≤ 0x87) where
       k low high
 
   -- of any other field it says what it said
-  pub other : (b : Bytes) (a : Request) (d : Bytes) (j : ℕ) → eqb j k ≡ false → argument j (filled k b a) d ≡ argument j a d
+  pub other : (b : Bytes) (a : Request) (d : Bytes) (j : ℕ) → eqb j k ≡ false
+      → argument j (filled k b a) d ≡ argument j a d
   unfolding filled argument
   other b a d j =
       each (λ (n : ℕ). eqb j n ≡ false → argument j (filled n b a) d ≡ argument j a d)
       (λ e. rw e) (λ e. rw e) (λ e. rw e) (λ e. rw e) (λ e. rw e) (λ e. rw e) (λ e. refl)
       k low high
 
-  pub stays_sound : (t : ℕ) (b : Bytes) (a : Request) → has_size k (length b) ≡ true → (k < 0x83 → Below 256 b) → Sound t a → Sound t (filled k b a)
+  pub stays_sound : (t : ℕ) (b : Bytes) (a : Request) → has_size k (length b) ≡ true → (k < 0x83 → Below 256 b)
+      → Sound t a → Sound t (filled k b a)
   unfolding has_size filled
   stays_sound t b a =
       each (λ (n : ℕ). has_size n (length b) ≡ true → (n < 0x83 → Below 256 b) → Sound t a → Sound t (filled n b a))
-      (λ s h c. record { tagged = c.tagged; issued = (number_of b s (h (omega arith))).0; partied = c.partied; eight = c.eight })
-      (λ s h c. record { tagged = c.tagged; issued = c.issued; partied = (number_of b s (h (omega arith))).0; eight = c.eight })
+      (λ s h c.
+      let n = number_of b s (h (omega arith)) in
+      record { tagged = c.tagged; issued = n.0; partied = c.partied; eight = c.eight })
+      (λ s h c.
+      let n = number_of b s (h (omega arith)) in
+      record { tagged = c.tagged; issued = c.issued; partied = n.0; eight = c.eight })
       (λ s h c. record { tagged = c.tagged; issued = c.issued; partied = c.partied; eight = c.eight })
       (λ s h c. record { tagged = c.tagged; issued = c.issued; partied = c.partied; eight = c.eight })
-      (λ s h c. record { tagged = c.tagged; issued = c.issued; partied = c.partied; eight = (eqb-true (length b) 8 s, c.eight.1) })
-      (λ s h c. record { tagged = c.tagged; issued = c.issued; partied = c.partied; eight = (c.eight.0, eqb-true (length b) 8 s) })
+      (λ s h c.
+      let e = eqb-true (length b) 8 s in
+      record { tagged = c.tagged; issued = c.issued; partied = c.partied; eight = (e, c.eight.1) })
+      (λ s h c.
+      let e = eqb-true (length b) 8 s in
+      record { tagged = c.tagged; issued = c.issued; partied = c.partied; eight = (c.eight.0, e) })
       (λ s h c. c)
       k low high
 
@@ -104,14 +120,18 @@ module _ (k : ℕ) (low : 0x80 < k) (high : k ≤ 0x87) where
   unfolding has_size
   one_size_lem m n =
       each (λ (j : ℕ). j < 0x87 → has_size j m ≡ true → has_size j n ≡ true → m ≡ n)
-      (λ l e f. to 4 e f) (λ l e f. to 4 e f) (λ l e f. to 1 e f) (λ l e f. to 1 e f) (λ l e f. to 8 e f) (λ l e f. to 8 e f) (λ l e f. absurd (omega arith))
+      (λ l e f. to 4 e f) (λ l e f. to 4 e f)
+      (λ l e f. to 1 e f) (λ l e f. to 1 e f)
+      (λ l e f. to 8 e f) (λ l e f. to 8 e f)
+      (λ l e f. absurd (omega arith))
       k low high
     where
       to : (x : ℕ) → eqb m x ≡ true → eqb n x ≡ true → m ≡ n
       to x e f = eqb-true m x e ∙ sym (eqb-true n x f)
 
   -- only the data may be long
-  pub short_argument : (t : ℕ) (a : Request) (d : Bytes) → Sound t a → length d < 65536 → length (argument k a d) < 65536
+  pub short_argument : (t : ℕ) (a : Request) (d : Bytes) → Sound t a → length d < 65536
+      → length (argument k a d) < 65536
   unfolding argument
   short_argument t a d c l =
       each (λ (n : ℕ). length (argument n a d) < 65536)
@@ -134,7 +154,8 @@ head_of x y e = ap (λ (l : Bytes). get_or l 0 0) e
 number_same : (x y : ℕ) → x < 256 ^ 4 → y < 256 ^ 4 → digits 256 4 x ≡ digits 256 4 y → x ≡ y
 number_same x y h k e = sym (row-digits 256 4 x h) ∙ ap (row 256 0) e ∙ row-digits 256 4 y k
 
-module _ (t : ℕ) (a a' : Request) (d d' : Bytes) (c : Sound t a) (c' : Sound t a') (e : (k : ℕ) → argument k a d ≡ argument k a' d') where
+module _ (t : ℕ) (a a' : Request) (d d' : Bytes) (c : Sound t a) (c' : Sound t a')
+    (e : (k : ℕ) → argument k a d ≡ argument k a' d') where
   pub same_request : a ≡ a'
   unfolding argument
   same_request =
