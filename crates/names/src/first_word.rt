@@ -6,7 +6,7 @@ ghost use Rattle.names.specs.FirstWord.{start_as};
 use crate::spelling::is_name;
 use crate::{COMMANDS, FirstWord};
 
-// The desk's own words, and `!` for raw bytes.
+// The desk's own words, and `!` for raw bytes: each is of a kind of its own, so a table would be no plainer.
 #[tactic(auto, unfolding(crate::specs::Names::desk_start))]
 fn desk_start(word: &[u8]) -> Option<FirstWord>
     ensures { start_as result ≡ desk_start word.now }

@@ -9,6 +9,7 @@ fn capital_of(letter: u8) -> u8
     letter.to_ascii_uppercase()
 }
 
+// `eq_ignore_ascii_case` would let small letters stand in the name too.
 pub fn is_name(word: &[u8], name: &[u8]) -> bool
     ensures { result ≡ same_name word.now name.now }
 {

@@ -15,6 +15,7 @@ use stream::Request;
 use words::split::{quote_before, span};
 use words::{Expected, Word, Wrong};
 
+// A field goes by its tag, as in the stream; any byte may be asked for.
 #[tactic(auto, unfolding(crate::specs::Fields::expected_for))]
 fn expected_for(field: u8) -> Expected
     ensures { result ≡ expected_for field }

@@ -5,6 +5,7 @@ ghost use Rattle.values.specs.Sources.{hex_value, unhex};
 
 use printout::page::Page;
 
+// Any letter has a value here, as in the definition; `to_digit` has one for hex digits alone.
 #[tactic(auto, unfolding(crate::specs::Sources::hex_value))]
 fn hex_value(letter: u8) -> u8
     ensures value { result ≡ hex_value letter }

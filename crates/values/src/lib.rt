@@ -72,7 +72,7 @@ impl<'a> Part<'a> {
     }
 }
 
-// A word as a field's value, a number or bytes.
+// A word as a field's value, a number or bytes. Both stand here, since `with_value` takes any two.
 #[derive(Clone, Copy)]
 pub struct Value {
     pub number: u32,
