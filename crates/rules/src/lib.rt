@@ -8,7 +8,7 @@ pub mod sides;
 
 use state::Facility;
 
-// What a key function asks for: t, r, s, or none of them.
+// What a key function asks for: t, r, s, or none of them. No Option: `sides::pair_key`, `side_for`, `with_key` and `with_vector` promise an answer to that, too.
 #[derive(Clone, Copy)]
 pub enum Function {
     Transmit,

@@ -123,6 +123,7 @@ pub fn run(f: Facility, table: &mut [u8], out: &mut [u8], s: &[u8], page: &mut P
         state: f,
         ordinal: 1,
     };
+    // The reader moves on by what stands there: nothing is counted here.
     while r.at < r.src.len() {
         d = turn(d, r.field(), r.value(), table, out, page);
         r = r.past();

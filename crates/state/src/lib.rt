@@ -10,7 +10,7 @@ pub mod places;
 
 use cipher::keys::{DataKey, InterchangeKey, Vector};
 
-// No Option: bytes may be handed in beside a mark of missing, and stay until a command overwrites them.
+// No Option: bytes may be handed in beside a mark of missing (`holdings::places::nothing_missing_stays`), and stay until a command overwrites them.
 // `known` is the Option.
 #[derive(Clone, Copy)]
 pub struct Held<T> {
@@ -56,7 +56,7 @@ pub struct Place {
     pub holdings: Holdings,
 }
 
-// The key of interchange n stands at n - 1. Interchange 1 is the facility's own.
+// The key of interchange n stands at n - 1. Interchange 1 is the facility's own. Two arrays, passed by value, as document 01's list of forms says.
 #[derive(Clone, Copy)]
 pub struct Facility {
     pub current_keys: [Held<InterchangeKey>; 15],
