@@ -46,20 +46,13 @@ pub fn number_of(answer: &Result<Outcome, Refusal>) -> u8
 pub fn shown<'a>(answer: &'a Result<Outcome, Refusal>, out: &'a [u8]) -> &'a [u8]
     ensures { result.now ≡ shown_of (answer_of answer.now) (block_of answer.now) out.now }
 {
-    match answer {
-        Ok(
-            Outcome {
-                reply: Reply::Block(block),
-                ..
-            },
-        ) => block,
-        Ok(
-            Outcome {
-                reply: Reply::Output(n),
-                ..
-            },
-        ) => first_of(out, *n),
-        _ => &[],
+    let Ok(outcome) = answer else {
+        return &[];
+    };
+    match &outcome.reply {
+        Reply::Plain => &[],
+        Reply::Block(block) => block,
+        Reply::Output(n) => first_of(out, *n),
     }
 }
 
