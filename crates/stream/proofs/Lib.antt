@@ -4,3 +4,4 @@ pub mod GrammarLaws
 pub mod ReadLaws
 pub mod RequestLaws
 pub mod Exact
+pub mod Kept
