@@ -56,13 +56,8 @@ pub struct Place {
     pub holdings: Holdings,
 }
 
-<<<<<<< ours
 // The key of interchange n stands at n - 1. Interchange 1 is the facility's own. Two arrays, passed by value, as document 01's list of forms says.
-#[derive(Clone, Copy)]
-=======
-// The key of interchange n stands at n - 1. Interchange 1 is the facility's own.
 #[derive(Clone, Copy, PartialEq, Eq)]
->>>>>>> theirs
 pub struct Facility {
     pub current_keys: [Held<InterchangeKey>; 15],
     pub old_keys: [Held<InterchangeKey>; 15],
