@@ -12,7 +12,7 @@ use cipher::keys::{DataKey, InterchangeKey, Vector};
 
 // No Option: bytes may be handed in beside a mark of missing, and stay until a command overwrites them.
 // `known` is the Option.
-#[derive(Clone, Copy)]
+#[derive(Clone, Copy, PartialEq, Eq)]
 pub struct Held<T> {
     pub present: bool,
     pub value: T,
@@ -35,21 +35,21 @@ impl<T: Copy> Held<T> {
     }
 }
 
-#[derive(Clone, Copy)]
+#[derive(Clone, Copy, PartialEq, Eq)]
 pub struct Side {
     pub key: Held<DataKey>,
     pub vector: Held<Vector>,
 }
 
 // What an active user holds: one side to transmit, one to receive.
-#[derive(Clone, Copy)]
+#[derive(Clone, Copy, PartialEq, Eq)]
 pub struct Holdings {
     pub transmit: Side,
     pub receive: Side,
 }
 
 // No Option, for the same reason: what a user leaves is overwritten, and not only marked.
-#[derive(Clone, Copy)]
+#[derive(Clone, Copy, PartialEq, Eq)]
 pub struct Place {
     pub taken: bool,
     pub user: u32,
@@ -57,7 +57,7 @@ pub struct Place {
 }
 
 // The key of interchange n stands at n - 1. Interchange 1 is the facility's own.
-#[derive(Clone, Copy)]
+#[derive(Clone, Copy, PartialEq, Eq)]
 pub struct Facility {
     pub current_keys: [Held<InterchangeKey>; 15],
     pub old_keys: [Held<InterchangeKey>; 15],
