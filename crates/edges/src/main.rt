@@ -7,13 +7,13 @@ mod lengths;
 mod tables;
 mod texts;
 
-use handed::report::{Tally, total};
+use handed::report::Tally;
 
 fn main() {
-    let t = Tally { cases: 0, wrong: 0 };
-    let t = lengths::all(t);
-    let t = texts::all(t);
-    let t = identifiers::all(t);
-    let t = tables::all(t);
-    total(t);
+    let mut t = Tally::default();
+    lengths::all(&mut t);
+    texts::all(&mut t);
+    identifiers::all(&mut t);
+    tables::all(&mut t);
+    t.total();
 }

@@ -1,53 +1,46 @@
 // States as they are handed in: written out, and not made by commands.
 ghost use Rattle.std.specs.Prelude.{◌<◌};
 
-use crate::published::LOW_KEY;
+use crate::published::{HIGH_KEY, LOW_KEY, ZEROS};
 use cipher::keys::{DataKey, InterchangeKey, Vector};
-use state::{Facility, HeldInterchangeKey, HeldKey, HeldVector, Holdings, Place, Side};
+use cipher::modes::Mode;
+use state::{Facility, Held, Holdings, Place, Side};
 
-pub fn key(bytes: [u8; 8]) -> HeldInterchangeKey {
-    HeldInterchangeKey {
-        present: true,
-        key: InterchangeKey(bytes),
-    }
-}
+// The modes, with the names of their commands.
+pub const MODES: [([u8; 4], Mode); 6] = [
+    (*b"ECBE", Mode::Ecbe),
+    (*b"ECBD", Mode::Ecbd),
+    (*b"CBCE", Mode::Cbce),
+    (*b"CBCD", Mode::Cbcd),
+    (*b"CFBE", Mode::Cfbe),
+    (*b"CFBD", Mode::Cfbd),
+];
 
-pub fn no_key() -> HeldInterchangeKey {
-    HeldInterchangeKey {
+// Interchange keys, and none.
+pub const LOW: Held<InterchangeKey> = Held {
+    present: true,
+    value: InterchangeKey(LOW_KEY),
+};
+
+pub const HIGH: Held<InterchangeKey> = Held {
+    present: true,
+    value: InterchangeKey(HIGH_KEY),
+};
+
+pub const NONE: Held<InterchangeKey> = Held {
+    present: false,
+    value: InterchangeKey(ZEROS),
+};
+
+// Marked missing, whatever stands beside the mark.
+pub fn missing<T>(value: T) -> Held<T> {
+    Held {
         present: false,
-        key: InterchangeKey([0; 8]),
+        value,
     }
 }
 
-pub fn data_key(bytes: [u8; 8]) -> HeldKey {
-    HeldKey {
-        present: true,
-        key: DataKey(bytes),
-    }
-}
-
-pub fn no_data_key() -> HeldKey {
-    HeldKey {
-        present: false,
-        key: DataKey([0; 8]),
-    }
-}
-
-pub fn vector(bytes: [u8; 8]) -> HeldVector {
-    HeldVector {
-        present: true,
-        vector: Vector(bytes),
-    }
-}
-
-pub fn no_vector() -> HeldVector {
-    HeldVector {
-        present: false,
-        vector: Vector([0; 8]),
-    }
-}
-
-pub fn side(key: HeldKey, vector: HeldVector) -> Side {
+pub fn side(key: Held<DataKey>, vector: Held<Vector>) -> Side {
     Side { key, vector }
 }
 
@@ -60,12 +53,12 @@ pub fn both(side: Side) -> Holdings {
 }
 
 pub fn nothing() -> Holdings {
-    both(side(no_data_key(), no_vector()))
+    both(side(missing(DataKey(ZEROS)), missing(Vector(ZEROS))))
 }
 
 // These eight bytes as each key and each vector.
 pub fn all_of(bytes: [u8; 8]) -> Holdings {
-    both(side(data_key(bytes), vector(bytes)))
+    both(side(Held::of(DataKey(bytes)), Held::of(Vector(bytes))))
 }
 
 pub fn place(user: u32, holdings: Holdings) -> Place {
@@ -86,23 +79,21 @@ pub fn free(holdings: Holdings) -> Place {
 }
 
 // Interchange 1 has these keys and the others none; no users.
-pub fn facility(current: HeldInterchangeKey, old: HeldInterchangeKey, due: bool) -> Facility {
-    let mut current_keys = [no_key(); 15];
-    let mut old_keys = [no_key(); 15];
-    current_keys[0] = current;
-    old_keys[0] = old;
-    let places = [free(nothing()); 16];
-    Facility {
-        current_keys,
-        old_keys,
+pub fn facility(current: Held<InterchangeKey>, old: Held<InterchangeKey>, due: bool) -> Facility {
+    let mut f = Facility {
+        current_keys: [NONE; 15],
+        old_keys: [NONE; 15],
         due,
-        places,
-    }
+        places: [free(nothing()); 16],
+    };
+    f.current_keys[0] = current;
+    f.old_keys[0] = old;
+    f
 }
 
 // In turn, with a current key that user 5's published answers go with.
 pub fn ready() -> Facility {
-    facility(key(LOW_KEY), no_key(), false)
+    facility(LOW, NONE, false)
 }
 
 // The same with user 5 active.
@@ -113,16 +104,7 @@ pub fn active(holdings: Holdings) -> Facility {
 pub fn seated(f: Facility, i: usize, p: Place) -> Facility
     requires { i < 16 }
 {
-    let mut places = f.places;
-    places[i] = p;
     let mut g = f;
-    g.places = places;
+    g.places[i] = p;
     g
-}
-
-pub fn place_at(f: Facility, i: usize) -> Place
-    requires { i < 16 }
-{
-    let places = f.places;
-    places[i]
 }

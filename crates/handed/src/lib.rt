@@ -2,6 +2,8 @@
 
 #![tactic(auto)]
 
+pub mod answers;
+pub mod bytes;
 pub mod entries;
 pub mod flat;
 pub mod given;

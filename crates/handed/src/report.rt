@@ -1,9 +1,10 @@
-// A line for each case, in plain words, and how many of them were wrong.
-use check::same;
+// A line for each case, in plain words, and how many of them were wrong. By `io`: `println!` is no plainer here, with a handle
+// through every function and a result that none can use; and a page of `printout` has its bytes in upper case.
+use crate::answers::{number_of, written};
 use io::{print_decimal, print_hex, write_all};
-use rules::{Answer, Outcome};
+use rules::{Outcome, Refusal};
 
-#[derive(Clone, Copy)]
+#[derive(Clone, Copy, Default)]
 pub struct Tally {
     pub cases: u64,
     pub wrong: u64,
@@ -13,121 +14,95 @@ fn text(s: &[u8]) {
     write_all(1, s);
 }
 
-fn number(n: u64) {
-    print_decimal(1, n);
+// What a case expects, and meets.
+pub trait Shown: Copy + PartialEq {
+    fn show(self);
 }
 
-fn byte(b: u8) {
-    print_hex(1, b as u64, 2);
-}
-
-fn bytes(s: &[u8]) {
-    let mut i = 0;
-    while i < s.len() {
-        byte(s[i]);
-        i += 1;
-    }
-}
-
-// The end of a line. No count of this program comes near 2^64.
-fn counted(t: Tally, right: bool) -> Tally {
-    let cases = t.cases.wrapping_add(1);
-    if right {
-        text(b"\n");
-        Tally {
-            cases,
-            wrong: t.wrong,
-        }
-    } else {
-        text(b", WRONG\n");
-        Tally {
-            cases,
-            wrong: t.wrong.wrapping_add(1),
-        }
-    }
-}
-
-// The page's number of an answer.
-fn number_of(answer: Answer) -> u8 {
-    match answer {
-        Answer::Done => 0,
-        Answer::Gave(n) => 0,
-        Answer::Wrote(n) => 0,
-        Answer::Refused(n) => n,
-    }
-}
-
-fn case(command: &[u8], words: &[u8]) {
-    text(command);
-    text(b", ");
-    text(words);
-    text(b": expected ");
-}
-
-fn compared(t: Tally, command: &[u8], words: &[u8], expected: u64, met: u64) -> Tally {
-    case(command, words);
-    number(expected);
-    text(b", met ");
-    number(met);
-    counted(t, met == expected)
-}
-
-// The reply to a command.
-pub fn reply(t: Tally, command: &[u8], words: &[u8], expected: u8, met: Outcome) -> Tally {
-    let answer = met.answer;
-    compared(t, command, words, expected as u64, number_of(answer) as u64)
-}
-
-fn written(answer: Answer) -> usize {
-    match answer {
-        Answer::Done => 0,
-        Answer::Gave(n) => 0,
-        Answer::Wrote(n) => n,
-        Answer::Refused(n) => 0,
-    }
-}
-
-// How many bytes of the output a command says that it wrote.
-pub fn wrote(t: Tally, command: &[u8], words: &[u8], expected: usize, met: Outcome) -> Tally {
-    let answer = met.answer;
-    compared(t, command, words, expected as u64, written(answer) as u64)
-}
-
-fn yes_or_no(b: bool) {
-    if b {
-        text(b"yes");
-    } else {
-        text(b"no");
+impl Shown for u64 {
+    fn show(self) {
+        print_decimal(1, self);
     }
 }
 
 // Whether something is so.
-pub fn mark(t: Tally, command: &[u8], words: &[u8], expected: bool, met: bool) -> Tally {
-    case(command, words);
-    yes_or_no(expected);
-    text(b", met ");
-    yes_or_no(met);
-    counted(t, met == expected)
+impl Shown for bool {
+    fn show(self) {
+        if self {
+            text(b"yes");
+        } else {
+            text(b"no");
+        }
+    }
 }
 
-// Bytes that a command leaves, gives or writes.
-pub fn left(t: Tally, command: &[u8], words: &[u8], expected: &[u8], met: &[u8]) -> Tally {
-    case(command, words);
-    bytes(expected);
-    text(b", met ");
-    bytes(met);
-    counted(t, same(met, expected))
+impl Shown for &[u8] {
+    fn show(self) {
+        for b in self {
+            print_hex(1, u64::from(*b), 2);
+        }
+    }
 }
 
-// A key, a vector or a block.
-pub fn eight(t: Tally, command: &[u8], words: &[u8], expected: [u8; 8], met: [u8; 8]) -> Tally {
-    left(t, command, words, &expected, &met)
-}
+impl Tally {
+    // No count of this program comes near 2^64.
+    fn count(&mut self, right: bool) {
+        self.cases = self.cases.wrapping_add(1);
+        if !right {
+            text(b", WRONG");
+            self.wrong = self.wrong.wrapping_add(1);
+        }
+        text(b"\n");
+    }
 
-// The last line.
-pub fn total(t: Tally) {
-    number(t.cases);
-    text(b" cases, ");
-    number(t.wrong);
-    text(b" wrong\n");
+    pub fn case<T: Shown>(&mut self, command: &[u8], words: &[u8], expected: T, met: T) {
+        text(command);
+        text(b", ");
+        text(words);
+        text(b": expected ");
+        expected.show();
+        text(b", met ");
+        met.show();
+        self.count(met == expected);
+    }
+
+    // The reply to a command.
+    pub fn reply(
+        &mut self,
+        command: &[u8],
+        words: &[u8],
+        expected: u8,
+        met: &Result<Outcome, Refusal>,
+    ) {
+        self.case(
+            command,
+            words,
+            u64::from(expected),
+            u64::from(number_of(met)),
+        );
+    }
+
+    // How many bytes of the output a command says that it wrote.
+    pub fn wrote(
+        &mut self,
+        command: &[u8],
+        words: &[u8],
+        expected: usize,
+        met: &Result<Outcome, Refusal>,
+    ) {
+        self.case(command, words, expected as u64, written(met) as u64);
+    }
+
+    // Bytes that a command leaves, gives or writes.
+    pub fn left(&mut self, command: &[u8], words: &[u8], expected: &[u8], met: &[u8]) {
+        self.case(command, words, expected, met);
+    }
+
+    // The last line.
+    pub fn total(self) {
+        self.cases.show();
+        text(b" cases, ");
+        self.wrong.show();
+        text(b" wrong\n");
+    }
 }

@@ -5,11 +5,11 @@
 mod held_keys;
 mod places;
 
-use handed::report::{Tally, total};
+use handed::report::Tally;
 
 fn main() {
-    let t = Tally { cases: 0, wrong: 0 };
-    let t = places::all(t);
-    let t = held_keys::all(t);
-    total(t);
+    let mut t = Tally::default();
+    places::all(&mut t);
+    held_keys::all(&mut t);
+    t.total();
 }
