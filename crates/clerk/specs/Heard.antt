@@ -1,8 +1,7 @@
 -- "A line of more than 131072 letters is read as if it ended after these. Where that is wrong before its end, that is said; otherwise it is wrong at column 131073".
 use Rattle.std.specs.Prelude.{Bool, false, cond, List, ℕ, ltb, length}
 use Rattle.words.specs.declared.Expected.TheVariants.{NothingMore}
-use Rattle.reader.specs.declared.Line.{Line}
-use Rattle.reader.specs.Line.{wrong_line}
+use Rattle.reader.specs.Line.{Line, wrong_line}
 use Rattle.reader.specs.Reader.{read_line}
 
 unfoldable pub wrong_before : Line → ℕ → Bool

@@ -1,13 +1,10 @@
 -- The stream's bytes of a line: "for a command its field, for raw bytes those bytes".
-use Rattle.std.specs.Prelude.{◌≡◌, cond, List, [], ℕ, take, replicate}
-use Rattle.std.proofs.Common.{ap, ◌∙◌}
-use Rattle.printout.specs.Page.{Page, page, entered}
+use Rattle.std.specs.Prelude.{cond, List, [], ℕ, take}
 use Rattle.encoder.specs.Encoded.{encoded}
-use Rattle.reader.specs.declared.Line.{Line}
+use Rattle.reader.specs.Line.{Line}
 use Rattle.names.specs.declared.Says.{Says}
 use Rattle.names.specs.declared.Says.TheVariants.{Nothing, Command, Raw, Help, Who, Quit}
 use Rattle.values.specs.Sources.{meant}
-use Rattle.clerk.specs.Filled.{put-fresh}
 
 -- a command's data is at most 65500 bytes; a field of more than 65535 is not written
 unfoldable pub command_bytes : Line → List ℕ → List ℕ → List ℕ
@@ -24,11 +21,3 @@ bytes_for Quit said l kept = []
 -- `l` is the line, and `kept` the room for the bytes of the answers, which fill it from its start
 unfoldable pub spoken : Line → List ℕ → List ℕ → List ℕ
 spoken said l kept = cond said.fits (bytes_for said.says said l kept) []
-
--- a command whose data went by a buffer of 65536 bytes
-pub by_buffer : (said : Line) (l kept buffer text : List ℕ) (filled : ℕ) (p q : Page)
-    → page buffer filled ≡ entered (meant said.bytes l kept) (page (replicate 65536 0) 0) → text ≡ take filled buffer → q ≡ entered (encoded said.asked text) p
-    → q ≡ entered (command_bytes said l kept) p
-unfolding command_bytes
-by_buffer said l kept buffer text filled p q e f g =
-    g ∙ ap (λ (t : List ℕ). entered (encoded said.asked t) p) (f ∙ put-fresh 65536 (meant said.bytes l kept) buffer filled e)

@@ -4,7 +4,7 @@ use Rattle.std.proofs.Common.{inl, inr}
 use Rattle.state.specs.declared.Place.{Place}
 use Rattle.talk.specs.Help.{help}
 use Rattle.talk.specs.Who.{who}
-use Rattle.reader.specs.declared.Line.{Line}
+use Rattle.reader.specs.Line.{Line}
 use Rattle.names.specs.declared.Says.{Says}
 use Rattle.names.specs.declared.Says.TheVariants.{Nothing, Command, Raw, Help, Who, Quit}
 use Rattle.clerk.specs.Spoken.{bytes_for, spoken}

@@ -1,9 +1,7 @@
 -- "A line that says none of these is answered with the first column at which it stops being one, and with what was expected there".
-use Rattle.std.specs.Prelude.{◌≡◌, cond, List, [], ◌∷◌, ◌++◌, ℕ, ◌+◌, ltb}
-use Rattle.std.proofs.Common.{sym, ap, ◌∙◌}
+use Rattle.std.specs.Prelude.{cond, List, [], ◌∷◌, ◌++◌, ℕ, ◌+◌, ltb}
 use Prim.Native.Char.{code}
 use Rattle.printout.specs.Text.{letters}
-use Rattle.printout.specs.Page.{Page, entered}
 use Rattle.printout.specs.Digits.{decimal}
 use Rattle.words.specs.declared.Expected.{Expected}
 use Rattle.words.specs.declared.Expected.TheVariants.{Name, Identifier, Interchange, Function, Block, Bytes, RawBytes, FewerBytes, ClosingQuote, SpaceAfterQuote, NothingMore}
@@ -34,7 +32,3 @@ wrong_text number place expected =
     ++ (letters ": expected "
     ++ (expected_text expected
     ++ (code "\n" ∷ []))))))
-
--- a text entered for what is known to be expected
-pub by_expected : (e known : Expected) (p q : Page) → e ≡ known → q ≡ entered (expected_text known) p → q ≡ entered (expected_text e) p
-by_expected e known p q h f = f ∙ ap (λ (x : Expected). entered (expected_text x) p) (sym h)

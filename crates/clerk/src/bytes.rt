@@ -1,40 +1,38 @@
 // A line's bytes in the stream: "for a command its field, for raw bytes those bytes".
-ghost use Rattle.std.specs.Prelude.{◌≡◌};
-ghost use Rattle.printout.specs.Page.{page, entered};
+ghost use Rattle.std.specs.Prelude.{◌≡◌, Ok};
+ghost use Rattle.printout.specs.Inked.{inked};
+ghost use Rattle.reader.specs.Results.{line_as};
 ghost use Rattle.clerk.specs.Spoken.{command_bytes, spoken};
 
 use encoder::put_command;
 use names::Says;
-use printout::page::first_of;
+use printout::page::{Page, first_of};
 use reader::Line;
 use values::sources::put_meant;
+use words::Wrong;
 
-fn put_said(piece: &mut [u8], said: Line, line: &[u8], kept: &[u8]) -> usize
-    ensures { page piece.new result ≡ entered (command_bytes said line.now kept.now) (page piece.old 0) }
+// A command's data goes by a page of its own.
+fn put_said(page: &mut Page, said: Line, line: &[u8], kept: &[u8])
+    ensures { page.new ≡ inked (command_bytes (line_as (Ok said)) line.now kept.now) page.old }
 {
-    let asked = said.asked;
-    let source = said.bytes;
-    let mut data = [0u8; 65536];
-    let filled = put_meant(&mut data, 0, source, line, kept);
-    put_command(&mut piece[..], 0, asked, first_of(&data, filled))
+    let mut room = [0u8; 65536];
+    let mut data = Page::new(&mut room);
+    put_meant(&mut data, said.bytes, line, kept);
+    let filled = data.filled;
+    put_command(page, said.asked, first_of(data.letters, filled));
 }
 
-// From the start of the piece; nothing for a line that is bad, or that is for the desk.
-pub fn put_spoken(piece: &mut [u8], said: Line, line: &[u8], kept: &[u8]) -> usize
-    ensures { page piece.new result ≡ entered (spoken said line.now kept.now) (page piece.old 0) }
+// Nothing for a line that is bad, or that is for the desk.
+#[tactic(auto, using(printout::specs::Inked::inked_none), unfolding(crate::specs::Spoken::spoken, reader::specs::Line::wrong_line))]
+pub fn put_spoken(page: &mut Page, said: Result<Line, Wrong>, line: &[u8], kept: &[u8])
+    ensures { page.new ≡ inked (spoken (line_as said) line.now kept.now) page.old }
 {
-    let says = said.says;
-    let source = said.bytes;
-    if said.fits {
-        match says {
-            Says::Nothing => 0,
-            Says::Command => put_said(&mut piece[..], said, line, kept),
-            Says::Raw => put_meant(&mut piece[..], 0, source, line, kept),
-            Says::Help => 0,
-            Says::Who => 0,
-            Says::Quit => 0,
-        }
-    } else {
-        0
+    let Ok(good) = said else {
+        return;
+    };
+    match good.says {
+        Says::Command => put_said(page, good, line, kept),
+        Says::Raw => put_meant(page, good.bytes, line, kept),
+        Says::Nothing | Says::Help | Says::Who | Says::Quit => {}
     }
 }

@@ -1,33 +1,33 @@
 // What a line says, where it may have more letters than a line has.
 ghost use Rattle.std.specs.Prelude.{◌≡◌};
-ghost use Rattle.clerk.specs.Heard.{wrong_before, cut_at, heard};
+ghost use Rattle.reader.specs.Results.{line_as};
+ghost use Rattle.clerk.specs.Heard.{cut_at, heard};
 
+use reader::Line;
 use reader::reader::read_line;
-use reader::{Line, wrong_line};
-use words::Expected;
-
-fn wrong_before(said: Line, n: usize) -> bool
-    ensures { result ≡ wrong_before said n }
-{
-    if said.fits { false } else { said.at < n }
-}
+use values::Answers;
+use words::{Expected, Wrong};
 
 // A line that goes on past its first n letters is wrong there, where it is not wrong before.
-fn cut_at(said: Line, n: usize) -> Line
-    ensures { result ≡ cut_at said n }
+#[tactic(auto, unfolding(crate::specs::Heard::cut_at, crate::specs::Heard::wrong_before, reader::specs::Line::wrong_line))]
+fn cut_at(said: Result<Line, Wrong>, n: usize) -> Result<Line, Wrong>
+    ensures { line_as result ≡ cut_at (line_as said) n }
 {
-    if wrong_before(said, n) {
-        said
-    } else {
-        wrong_line(n, Expected::NothingMore)
+    match said {
+        Err(wrong) if wrong.at < n => said,
+        _ => Err(Wrong {
+            at: n,
+            expected: Expected::NothingMore,
+        }),
     }
 }
 
 // `line` has the letters that found room, and `longer` says whether there are more.
-pub fn hear(line: &[u8], longer: bool, kept: &[u8], ends: &[usize]) -> Line
-    ensures { result ≡ heard longer line.now kept.now ends.now }
+#[tactic(auto, unfolding(crate::specs::Heard::heard))]
+pub fn hear(line: &[u8], longer: bool, answers: Answers) -> Result<Line, Wrong>
+    ensures { line_as result ≡ heard longer line.now answers.entry.kept.now answers.entry.ends.now }
 {
-    let said = read_line(line, kept, ends);
+    let said = read_line(line, answers);
     if longer {
         cut_at(said, line.len())
     } else {

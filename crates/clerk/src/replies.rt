@@ -1,26 +1,18 @@
 // What the desk answers to a command: NOTARY's own line, and a line of words.
-ghost use Rattle.std.specs.Prelude.{◌≡◌};
-ghost use Rattle.printout.specs.Page.{page, entered};
-ghost use Rattle.session.specs.Run.{answered};
-ghost use Rattle.clerk.specs.Replies.{reply};
+ghost use Rattle.std.specs.Prelude.{◌≡◌, ◌++◌};
+ghost use Rattle.printout.specs.Inked.{inked};
+ghost use Rattle.printout.specs.Lines.{line};
+ghost use Rattle.talk.specs.Replies.{words_of};
 
-use crate::answers::reply_of;
-use rules::Outcome;
-use session::run::put_answer;
+use printout::lines::put_line;
+use printout::page::Page;
 use talk::replies::put_words;
 
-// `out` is the output as the command left it.
-pub fn put_reply(
-    paper: &mut [u8],
-    at: usize,
-    ordinal: usize,
-    tag: u8,
-    done: Outcome,
-    out: &[u8],
-) -> usize
-    ensures { page paper.new result ≡ entered (reply ordinal (answered tag (record { answer = done.answer; block = done.block; output = out.now }))) (page paper.old at) }
+// (`clerk/specs/Replies.reply` says which number and which bytes are an answer's.)
+#[tactic(auto, using(printout::specs::Inked::inked_more))]
+pub fn put_reply(page: &mut Page, ordinal: usize, tag: u8, number: u8, bytes: &[u8])
+    ensures { page.new ≡ inked (line ordinal tag number bytes.now ++ words_of tag number) page.old }
 {
-    let answer = done.answer;
-    let next = put_answer(&mut paper[..], at, ordinal, tag, done, out);
-    put_words(&mut paper[..], next, tag, reply_of(answer))
+    put_line(page, ordinal, tag, number, bytes);
+    put_words(page, tag, number);
 }

@@ -2,18 +2,14 @@
 use Rattle.std.specs.Prelude.{Bool, true, false, cond, List, [], ◌∷◌, ℕ, eqb, ltb, length}
 use Prim.Native.Char.{code}
 use Rattle.printout.specs.Page.{Page, page, letter, entered}
-use Rattle.reader.specs.declared.Line.{Line}
+use Rattle.reader.specs.Line.{Line}
 use Rattle.clerk.specs.Told.{is_quit}
-use Rattle.counter.specs.declared.input.Got.{Got}
 
 -- a line as far as it has come: its letters, as many as found room; whether it has more; and whether its line feed has come
 pub record Partly : Type 0 where
   pub letters : Page
   pub longer : Bool
   pub complete : Bool
-
-abbrev pub partly : List ℕ → Got → Partly
-partly buffer got = record { letters = page buffer got.letters; longer = got.longer; complete = got.complete }
 
 abbrev pub has_room : Page → Bool
 has_room p = ltb p.filled (length p.letters)

@@ -1,7 +1,5 @@
 -- The bytes of the answers, kept for `$n`.
-use Rattle.std.specs.Prelude.{◌≡◌, cond, List, [], ◌∷◌, ℕ, ◌+◌, ◌≤◌, ◌<◌, ltb, leb, length, set}
-use Rattle.std.proofs.Common.{le-leb}
-use Rattle.std.proofs.lemmas.Bool.{lt-leb}
+use Rattle.std.specs.Prelude.{cond, List, [], ◌∷◌, ℕ, ◌+◌, ltb, leb, length, set}
 use Rattle.printout.specs.Page.{Page, entered}
 use Rattle.session.specs.Run.{Answered, shown_of}
 
@@ -30,20 +28,13 @@ next n = cond (ltb n 0xFFFFFFFFFFFFFFFF) (n + 1) n
 abbrev ended : ℕ → Page → List ℕ → Books
 ended n p ends = books n p (end_marked ends n p.filled)
 
--- one answer more
+-- one answer more, with these bytes
+abbrev pub with_bytes : List ℕ → Books → Books
+with_bytes xs b = ended (next b.count) (kept_bytes xs b.bytes) b.ends
+
 unfoldable pub booked : Answered → Books → Books
-booked a b = ended (next b.count) (kept_bytes (shown_of a.told.answer a.told.block a.told.output) b.bytes) b.ends
+booked a b = with_bytes (shown_of a.told.answer a.told.block a.told.output) b
 
 unfoldable pub all_booked : List Answered → Books → Books
 all_booked [] b = b
 all_booked (a ∷ rest) b = all_booked rest (booked a b)
-
--- ---- whether there is room
-
-pub not-kept : (xs : List ℕ) (p : Page) → length p.letters < p.filled + length xs → p ≡ kept_bytes xs p
-unfolding kept_bytes
-not-kept xs p h = rw (lt-leb _ _ h)
-
-pub all_kept : (xs : List ℕ) (p : Page) → p.filled + length xs ≤ length p.letters → entered xs p ≡ kept_bytes xs p
-unfolding kept_bytes
-all_kept xs p h = rw (le-leb _ _ h)

@@ -1,3 +1,4 @@
+pub mod Holds
 pub mod Input
 pub mod Kept
 pub mod Line

@@ -1,21 +1,17 @@
 -- A piece of stream carried out: each command in turn, with its answer told and kept.
-use Rattle.std.specs.Prelude.{◌≡◌, List, ℕ, ◌<◌, ◌≤◌, length}
+use Rattle.std.specs.Prelude.{◌≡◌, ℕ, ◌<◌, ◌≤◌, length}
 use Rattle.std.proofs.Math.Path.{refl, ap, subst}
 use Rattle.std.proofs.Common.{sym, ◌∙◌, arith}
 use Rattle.stream.specs.declared.Field.{Field}
 use Rattle.stream.specs.declared.Field.TheVariants.{Whole, Cut, End}
-use Rattle.stream.specs.Fields.{part, field_at, value_at, value_whole, within}
+use Rattle.stream.specs.Fields.{part, field_at, within}
 use Rattle.printout.specs.Page.{Page, page, entered}
-use Rattle.state.specs.declared.Facility.{Facility}
 use Rattle.state.specs.State.{Bytes}
-use Rattle.rules.specs.declared.Answer.TheVariants.{Refused}
-use Rattle.rules.specs.declared.Outcome.{Outcome}
-use Rattle.rules.specs.World.{World, over as world}
-use Rattle.rules.specs.Step.{Result, result, Told, plain}
-use Rattle.rules.specs.Outcomes.{refused_of, left}
-use Rattle.session.specs.Run.{answered, answer_to, shown_of, Ran, go_on, ran_from, turn, over}
+use Rattle.rules.specs.World.{World}
+use Rattle.rules.specs.Step.{Refused, Result, result, plain}
+use Rattle.session.specs.Run.{answered, answer_to, Ran, go_on, ran_from, turn, over}
 use Rattle.clerk.specs.Replies.{reply}
-use Rattle.counter.specs.Kept.{Books, books, next, kept_bytes, end_marked, booked, all_booked}
+use Rattle.counter.specs.Kept.{Books, next, booked, all_booked}
 
 -- ---- one command
 
@@ -43,36 +39,6 @@ turn_of s w out b paper End = turned w out b (page paper 0) (length s)
 
 unfoldable pub turn_at : Bytes → ℕ → World → Bytes → Books → Bytes → Turned
 turn_at s at w out b paper = turn_of s w out b paper (field_at s at)
-
--- what the code did with an answer
-pub by_answer : (w : World) (b : Books) (paper : Bytes) (tag at : ℕ) (told : Told) (n : ℕ) (p kept : Page) (ends : List ℕ)
-    → n ≡ next b.count → p ≡ entered (reply n (answered tag told)) (page paper 0) → kept ≡ kept_bytes (shown_of told.answer told.block told.output) b.bytes
-    → ends ≡ end_marked b.ends n kept.filled → turned w told.output (books n kept ends) p at ≡ turn_for tag at (result told w) b paper
-unfolding booked
-by_answer w b paper tag at told n p kept ends e f g h =
-    ap (λ (l : List ℕ). turned w told.output (books n kept l) p at) h
-    ∙ ap (λ (q : Page). turned w told.output (books n kept (end_marked b.ends n kept.filled)) q at) f
-    ∙ ap (λ (k : Page). turned w told.output (books n k (end_marked b.ends n k.filled)) (entered (reply n (answered tag told)) (page paper 0)) at) g
-    ∙ ap (λ (m : ℕ). turned w told.output (books m whole (end_marked b.ends m whole.filled)) (entered (reply m (answered tag told)) (page paper 0)) at) e
-  where
-    whole : Page
-    whole = kept_bytes (shown_of told.answer told.block told.output) b.bytes
-
--- what the code did at a place
-module _ (s : Bytes) (at : ℕ) (b : Books) (paper out : Bytes) (t : Turned) where
-  pub by_whole : (w : World) (tag start end : ℕ) → field_at s at ≡ Whole tag start end → (v : Bytes) → v ≡ value_at s at → (r : Result) → r ≡ answer_to w tag v out
-      → t ≡ turn_for tag end r b paper → t ≡ turn_at s at w out b paper
-  unfolding turn_at
-  by_whole w tag start end e v f r d g =
-      g
-      ∙ ap (λ (x : Result). turn_for tag end x b paper) (d ∙ ap (λ (x : Bytes). answer_to w tag x out) (f ∙ value_whole s at tag start end e))
-      ∙ ap (turn_of s w out b paper) (sym e)
-
-  pub by_cut : (f : Facility) (table : Bytes) (tag : ℕ) → field_at s at ≡ Cut tag → (done : Outcome) → done ≡ refused_of f 17
-      → t ≡ turn_for tag (length s) (left done table out) b paper → t ≡ turn_at s at (world f table) out b paper
-  unfolding turn_at
-  by_cut f table tag e done d g =
-      g ∙ ap (λ (x : Outcome). turn_for tag (length s) (left x table out) b paper) d ∙ ap (turn_of s (world f table) out b paper) (sym e)
 
 -- ---- all of them
 

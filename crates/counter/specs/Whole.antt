@@ -6,7 +6,8 @@ use Rattle.ground.specs.Search.{by_test}
 use Rattle.printout.specs.Page.{Page, page, letter, entered, then}
 use Rattle.clerk.specs.Filled.{put-over}
 use Rattle.counter.specs.declared.input.Got.{Got}
-use Rattle.counter.specs.Input.{Partly, partly, has_room, one_more, no_feed, line_in}
+use Rattle.counter.specs.Holds.{partly}
+use Rattle.counter.specs.Input.{Partly, has_room, one_more, no_feed, line_in}
 
 -- whether a buffer has room after a text
 room_after : (l b : List ℕ) (m : ℕ) → has_room (entered l (page b m)) ≡ ltb (m + length l) (length b)
@@ -88,6 +89,7 @@ one_more_lem buffer p (l, f, e) x q g =
         ∙ ap (λ (r : Page). record { letters = r; longer = ltb (length buffer) (length (l ++ (x ∷ []))); complete = false }) (sym (then l (x ∷ []) (page buffer 0)))
 
 -- what stands in the buffer then, for the line to be heard: as many letters as found room, and whether there are more
-pub letters_there : (buffer l line : List ℕ) (got : Got) → partly line got ≡ line_in buffer got.complete l
-    → (take got.letters line ≡ take (length buffer) l) × (got.longer ≡ ltb (length buffer) (length l))
-letters_there buffer l line got e = (put-over buffer l line got.letters (ap (λ (p : Partly). p.letters) e), ap (λ (p : Partly). p.longer) e)
+pub letters_there : (buffer l : List ℕ) (got : Got) → partly got ≡ line_in buffer got.complete l
+    → (take got.letters.filled got.letters.letters.now ≡ take (length buffer) l) × (got.longer ≡ ltb (length buffer) (length l))
+letters_there buffer l got e =
+    (put-over buffer l got.letters.letters.now got.letters.filled (ap (λ (p : Partly). p.letters) e), ap (λ (p : Partly). p.longer) e)

@@ -1,91 +1,74 @@
 // Lines from standard input, letter by letter, so that each is answered before the next is waited for.
 ghost use Rattle.std.specs.Prelude.{◌≡◌, true, List, ℕ};
-ghost use Rattle.counter.specs.Input.{partly, one_more, no_feed, line_in, is_last};
+ghost use Rattle.reader.specs.Results.{line_as};
+ghost use Rattle.counter.specs.Input.{one_more, no_feed, line_in, is_last};
+ghost use Rattle.counter.specs.Holds.{partly, coming};
 
 use clerk::told::is_quit;
 use io::read_full;
-use printout::page::put;
+use printout::page::Page;
 use reader::Line;
+use words::Wrong;
 
-// A line as far as it has come: how many of its letters are there, whether it has more than found room, and whether its line feed has come.
-#[derive(Clone, Copy)]
-pub struct Got {
-    pub letters: usize,
+// A line as far as it has come: its letters, whether it has more than found room, and whether its line feed has come.
+#[derive(Drop)]
+pub struct Got<'a> {
+    pub letters: Page<'a>,
     pub longer: bool,
     pub complete: bool,
 }
 
-// One letter more: the line feed, or a letter of the line.
-pub fn take_letter(line: &mut [u8], got: Got, letter: u8) -> Got
-    ensures { partly line.new result ≡ one_more letter (partly line.old got) }
-{
-    if letter == 10 {
-        Got {
-            letters: got.letters,
-            longer: got.longer,
-            complete: true,
+impl Got<'_> {
+    // One letter more: the line feed, or a letter of the line.
+    #[tactic(auto, unfolding(crate::specs::Input::one_more, printout::specs::Inked::inked, printout::specs::Page::entered))]
+    pub fn take_letter(&mut self, letter: u8)
+        ensures { self.new ≡ coming (one_more letter (partly self.old)) self.old }
+    {
+        self.complete = letter == b'\n';
+        if self.complete {
+            return;
         }
-    } else if got.letters < line.len() {
-        let letters = put(&mut line[..], got.letters, letter);
-        Got {
-            letters,
-            longer: got.longer,
-            complete: false,
-        }
-    } else {
-        Got {
-            letters: got.letters,
-            longer: true,
-            complete: false,
-        }
+        let full = self.letters.letters.len() <= self.letters.filled;
+        self.longer = self.longer || full;
+        self.letters.put(letter);
     }
 }
 
-#[derive(Clone, Copy)]
-enum Letter {
-    Came(u8),
-    Ended,
-}
-
-fn next_letter() -> Letter {
+fn next_letter() -> Option<u8> {
     let mut one = [0u8; 1];
-    let got = read_full(0, &mut one);
-    if got == 1 {
-        Letter::Came(one[0])
+    if read_full(0, &mut one) == 1 {
+        Some(one[0])
     } else {
-        Letter::Ended
+        None
     }
 }
 
 // The next line, without its line feed; not complete where the input has ended. (What the input holds no contract can say: this one says that some line stands there.)
-pub fn next_line(line: &mut [u8]) -> Got
-    ensures { (l : List ℕ) × (no_feed l ≡ true) × (partly line.new result ≡ line_in line.old result.complete l) }
+pub fn next_line(line: &mut [u8]) -> Got<'_>
+    ensures line { (l : List ℕ) × (no_feed l ≡ true) × (partly result ≡ line_in line.old result.complete l) }
+    ensures lent { result.letters.letters.ghost_name ≡ line.entry.ghost_name }
 {
     let mut got = Got {
-        letters: 0,
+        letters: Page::new(line),
         longer: false,
         complete: false,
     };
-    let mut turns = u64::MAX;
-    while 0 < turns {
-        let next = next_letter();
-        match next {
-            Letter::Came(letter) => {
-                got = take_letter(&mut line[..], got, letter);
-                if got.complete {
-                    return got;
-                }
-            }
-            Letter::Ended => return got,
+    for _ in 0..u64::MAX {
+        let Some(letter) = next_letter() else {
+            return got;
+        };
+        got.take_letter(letter);
+        if got.complete {
+            return got;
         }
-        turns -= 1;
     }
     got
 }
 
 // "`quit`, or the input's end, ends the desk."
-pub fn is_last(got: Got, said: Line) -> bool
-    ensures { result ≡ is_last got.complete said }
+#[tactic(auto, unfolding(crate::specs::Input::is_last))]
+pub fn is_last(complete: bool, said: Result<Line, Wrong>) -> bool
+    ensures { result ≡ is_last complete (line_as said) }
 {
-    if got.complete { is_quit(said) } else { true }
+    !complete || is_quit(said)
 }

@@ -1,56 +1,42 @@
 // A line served: heard with the answers kept so far, put into its bytes, and these carried out.
 ghost use Rattle.std.specs.Prelude.{◌≡◌, length, take};
-ghost use Rattle.rules.specs.World.{over};
-ghost use Rattle.printout.specs.Page.{page};
-ghost use Rattle.counter.specs.Kept.{books};
-ghost use Rattle.counter.specs.Service.{carried};
-ghost use Rattle.counter.specs.Line.{served, served_line};
+ghost use Rattle.reader.specs.Results.{line_as};
+ghost use Rattle.counter.specs.Line.{served};
+ghost use Rattle.counter.specs.Holds.{desk_as, left_as, served_with};
 
-use crate::kept::ends_of;
-use crate::service::{Desk, carry_out};
+use crate::service::{Desk, text_of};
 use clerk::bytes::put_spoken;
 use clerk::heard::hear;
-use printout::page::first_of;
+use printout::page::Page;
 use reader::Line;
+use words::Wrong;
 
-// What a line leaves: the desk, what the line says, and how far its bytes fill the piece.
-#[derive(Clone, Copy)]
-pub struct Serving {
-    pub desk: Desk,
-    pub said: Line,
-    pub spoken: usize,
+// What a line leaves: the desk, and what the line says.
+#[derive(Drop)]
+pub struct Serving<'a> {
+    pub desk: Desk<'a>,
+    pub said: Result<Line, Wrong>,
 }
 
-// `line` has the letters that found room, and `longer` says whether there are more. A line that is bad, or for the desk, has no bytes, and nothing is carried out.
-pub fn serve_line(
-    desk: Desk,
-    speaks: bool,
-    line: &[u8],
-    longer: bool,
-    table: &mut [u8],
-    out: &mut [u8],
-    kept: &mut [u8],
-    ends: &mut [usize],
-    piece: &mut [u8],
-    paper: &mut [u8],
-) -> Serving
-    ensures { served result.said (take result.spoken piece.new) (carried (over result.desk.state table.new) out.new (books result.desk.answers (page kept.new result.desk.used) ends.new)) ≡ served_line longer line.now (length piece.old) (over desk.state table.old) out.old (books desk.answers (page kept.old desk.used) ends.old) }
-{
-    let said = hear(line, longer, &kept[..], ends_of(&ends[..], desk.answers));
-    let spoken = put_spoken(&mut piece[..], said, line, &kept[..]);
-    let after = carry_out(
-        desk,
-        speaks,
-        first_of(&piece[..], spoken),
-        &mut table[..],
-        &mut out[..],
-        &mut kept[..],
-        &mut ends[..],
-        &mut paper[..],
-    );
-    Serving {
-        desk: after,
-        said,
-        spoken,
+impl<'a> Desk<'a> {
+    // `line` has the letters that found room, and `longer` says whether there are more. Its bytes fill the piece from its start; a line that is bad, or for the desk, has none, and nothing is carried out.
+    #[tactic(auto, using(crate::proofs::Pieces::put_over), unfolding(crate::specs::Line::served_line, printout::specs::Inked::inked))]
+    pub fn serve_line(
+        self,
+        speaks: bool,
+        line: &[u8],
+        longer: bool,
+        piece: &mut Page,
+        paper: &mut Page,
+    ) -> Serving<'a>
+        ensures served { served (line_as result.said) (take piece.new.filled piece.new.letters.now) (desk_as result.desk) ≡ served_with longer line.now (length piece.old.letters.now) (desk_as self.entry) }
+        ensures desk { result.desk ≡ left_as (desk_as result.desk) self.entry }
+    {
+        let answers = self.books.answers();
+        let said = hear(line, longer, answers);
+        piece.filled = 0;
+        put_spoken(piece, said, line, answers.kept);
+        let desk = self.carry_out(speaks, text_of(piece), paper);
+        Serving { desk, said }
     }
 }

@@ -1,153 +1,125 @@
 // A piece of stream carried out, at the desk with its answers in words.
-ghost use Rattle.std.specs.Prelude.{◌≡◌, length};
-ghost use Rattle.rules.specs.World.{over};
-ghost use Rattle.rules.specs.Outcomes.{left};
-ghost use Rattle.printout.specs.Page.{page};
-ghost use Rattle.counter.specs.Kept.{next, books};
-ghost use Rattle.counter.specs.Service.{turned, turn_for, turn_at, carried, carried_out};
-ghost use Rattle.state.specs.State.{Bytes};
+ghost use Rattle.std.specs.Prelude.{◌≡◌, ◌++◌, take};
+ghost use Rattle.printout.specs.Inked.{sheet, bearing, inked};
+ghost use Rattle.printout.specs.Lines.{line};
+ghost use Rattle.talk.specs.Replies.{words_of};
+ghost use Rattle.counter.specs.Kept.{next, with_bytes};
+ghost use Rattle.counter.specs.Holds.{books_as, with_books, desk_as, left_as};
+ghost use Rattle.counter.specs.Holds.{answered_with, told_with, turn_as, turn_with, carried_with};
 
-use crate::kept::{keep, mark_end, one_more};
+use crate::kept::Books;
 use clerk::replies::put_reply;
 use io::write_all;
-use printout::page::first_of;
-use rules::Outcome;
-use rules::replies::refused;
-use session::run::answer_to;
+use printout::page::{Page, first_of};
+use rules::Refusal;
+use session::run::{answer_to, number_of, shown, state_after};
 use state::Facility;
 use stream::Field;
 use stream::fields::{field_at, value_at};
 
-// The facility, how many answers it has given, and how many of their bytes are kept.
-#[derive(Clone, Copy)]
-pub struct Desk {
+// What lasts from line to line: the facility, the password table and the output that it is lent, and its answers.
+#[derive(Drop)]
+pub struct Desk<'a> {
     pub state: Facility,
-    pub answers: usize,
-    pub used: usize,
+    pub table: &'a mut [u8],
+    pub out: &'a mut [u8],
+    pub books: Books<'a>,
 }
 
-// What a command leaves: the desk, where the piece goes on, and how far the answer fills the paper.
-#[derive(Clone, Copy)]
-pub struct Turn {
-    pub desk: Desk,
+// What a command leaves: the desk, and where the piece goes on.
+#[derive(Drop)]
+pub struct Turn<'a> {
+    pub desk: Desk<'a>,
     pub at: usize,
-    pub told: usize,
 }
 
-// An answer put onto the paper, and kept.
-fn give(
-    desk: Desk,
-    at: usize,
-    tag: u8,
-    done: Outcome,
-    out: &[u8],
-    kept: &mut [u8],
-    ends: &mut [usize],
-    paper: &mut [u8],
-) -> Turn
-    ensures { (t : Bytes) → turned (over result.desk.state t) out.now (books result.desk.answers (page kept.new result.desk.used) ends.new) (page paper.new result.told) result.at ≡ turn_for tag at (left done t out.now) (books desk.answers (page kept.old desk.used) ends.old) paper.old }
+// What stands on a page.
+pub fn text_of<'a>(page: &'a Page) -> &'a [u8]
+    ensures { result.now ≡ take page.now.filled page.now.letters.now }
 {
-    let ordinal = one_more(desk.answers);
-    let told = put_reply(&mut paper[..], 0, ordinal, tag, done, out);
-    let used = keep(&mut kept[..], desk.used, done, out);
-    mark_end(&mut ends[..], ordinal, used);
-    let state = done.state;
-    let after = Desk {
-        state,
-        answers: ordinal,
-        used,
-    };
-    Turn {
-        desk: after,
-        at,
-        told,
+    first_of(page.letters, page.filled)
+}
+
+// An answer is written at once, where that is wanted.
+fn tell(speaks: bool, paper: &Page) {
+    if speaks {
+        write_all(1, text_of(paper));
     }
 }
 
-// The command that stands at a place of the piece, with its answer from the start of the paper. A field that runs past the piece's end is 17, and the rest is not read.
-pub fn next_command(
-    desk: Desk,
-    piece: &[u8],
-    at: usize,
-    table: &mut [u8],
-    out: &mut [u8],
-    kept: &mut [u8],
-    ends: &mut [usize],
-    paper: &mut [u8],
-) -> Turn
-    ensures { turned (over result.desk.state table.new) out.new (books result.desk.answers (page kept.new result.desk.used) ends.new) (page paper.new result.told) result.at ≡ turn_at piece.now at (over desk.state table.old) out.old (books desk.answers (page kept.old desk.used) ends.old) paper.old }
-{
-    let state = desk.state;
-    let next = field_at(piece, at);
-    match next {
-        Field::Whole { tag, start: _, end } => {
-            let done = answer_to(
-                state,
-                &mut table[..],
-                &mut out[..],
-                tag,
-                value_at(piece, at),
-            );
-            give(
-                desk,
-                end,
-                tag,
-                done,
-                &out[..],
-                &mut kept[..],
-                &mut ends[..],
-                &mut paper[..],
-            )
+impl Books<'_> {
+    // An answer put onto the paper, and kept.
+    fn give(&mut self, tag: u8, number: u8, bytes: &[u8], paper: &mut Page)
+        ensures books { self.new ≡ with_books (with_bytes bytes.now (books_as self.old)) self.old }
+        ensures paper { paper.new ≡ inked (line (next self.old.count) tag number bytes.now ++ words_of tag number) paper.old }
+    {
+        self.keep(bytes);
+        put_reply(paper, self.count, tag, number, bytes);
+    }
+}
+
+impl<'a> Desk<'a> {
+    // The command of this tag and value, with its answer.
+    #[tactic(auto, unfolding(crate::specs::Kept::booked, clerk::specs::Replies::reply))]
+    fn serve(self, tag: u8, value: &[u8], paper: &mut Page) -> Desk<'a>
+        ensures desk { result ≡ left_as (answered_with tag value.now (desk_as self.entry)) self.entry }
+        ensures paper { paper.new ≡ inked (told_with tag value.now (desk_as self.entry)) paper.old }
+    {
+        let Desk {
+            state,
+            table,
+            out,
+            mut books,
+        } = self;
+        let answer = answer_to(state, table, out, tag, value);
+        books.give(tag, number_of(&answer), shown(&answer, out), paper);
+        Desk {
+            state: state_after(state, &answer),
+            table,
+            out,
+            books,
         }
-        Field::Cut { tag } => give(
-            desk,
-            piece.len(),
-            tag,
-            refused(state, 17),
-            &out[..],
-            &mut kept[..],
-            &mut ends[..],
-            &mut paper[..],
-        ),
-        Field::End => Turn {
-            desk,
-            at: piece.len(),
-            told: 0,
-        },
     }
-}
 
-// The commands of a piece, one after the other; each answer is written at once, where that is wanted.
-pub fn carry_out(
-    desk: Desk,
-    speaks: bool,
-    piece: &[u8],
-    table: &mut [u8],
-    out: &mut [u8],
-    kept: &mut [u8],
-    ends: &mut [usize],
-    paper: &mut [u8],
-) -> Desk
-    ensures { carried (over result.state table.new) out.new (books result.answers (page kept.new result.used) ends.new) ≡ carried_out piece.now (over desk.state table.old) out.old (books desk.answers (page kept.old desk.used) ends.old) }
-{
-    let mut d = desk;
-    let mut at: usize = 0;
-    while at < piece.len() {
-        let turn = next_command(
-            d,
-            piece,
-            at,
-            &mut table[..],
-            &mut out[..],
-            &mut kept[..],
-            &mut ends[..],
-            &mut paper[..],
-        );
-        if speaks {
-            write_all(1, first_of(&paper[..], turn.told));
+    // The command that stands at a place of the piece, with its answer from the start of the paper. A field that runs past the piece's end is 17, and the rest is not read.
+    #[tactic(auto, using(stream::specs::Fields::value_whole), unfolding(crate::specs::Service::turn_at, crate::specs::Kept::booked, clerk::specs::Replies::reply, printout::specs::Inked::inked))]
+    pub fn next_command(mut self, piece: &[u8], at: usize, paper: &mut Page) -> Turn<'a>
+        ensures turn { turn_as result paper.new ≡ turn_with piece.now at (desk_as self.entry) paper.old.letters.now }
+        ensures desk { result.desk ≡ left_as (desk_as result.desk) self.entry }
+        ensures paper { paper.new ≡ bearing (sheet paper.new) paper.old }
+    {
+        paper.filled = 0;
+        match field_at(piece, at) {
+            Field::Whole { tag, end, .. } => Turn {
+                desk: self.serve(tag, value_at(piece, at), paper),
+                at: end,
+            },
+            Field::Cut { tag } => {
+                self.books.give(tag, u8::from(Refusal::Cut), &[], paper);
+                Turn {
+                    desk: self,
+                    at: piece.len(),
+                }
+            }
+            Field::End => Turn {
+                desk: self,
+                at: piece.len(),
+            },
         }
-        d = turn.desk;
-        at = turn.at;
     }
-    d
+
+    // The commands of a piece, one after the other.
+    pub fn carry_out(self, speaks: bool, piece: &[u8], paper: &mut Page) -> Desk<'a>
+        ensures { result ≡ left_as (carried_with piece.now (desk_as self.entry)) self.entry }
+    {
+        let mut desk = self;
+        let mut at: usize = 0;
+        while at < piece.len() {
+            let turn = desk.next_command(piece, at, paper);
+            tell(speaks, paper);
+            desk = turn.desk;
+            at = turn.at;
+        }
+        desk
+    }
 }

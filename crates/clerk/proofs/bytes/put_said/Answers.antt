@@ -1,8 +1,13 @@
-use Rattle.clerk.specs.Spoken.{by_buffer}
+use Rattle.std.proofs.Common.{List, ℕ, ap, ◌∙◌}
+use Rattle.printout.specs.Inked.{sheet, inked}
+use Rattle.encoder.specs.Encoded.{encoded}
+use Rattle.clerk.specs.Spoken.{command_bytes}
+use Rattle.clerk.proofs.Pages.{fresh_text}
 use Rattle.clerk.proofs.bytes.put_said.Goals as goal
 
 pub returns : goal.returns
-returns c = by_buffer c.args.said _ _ _ _ _ _ _
-    c.put_meant-filled.ensures
-    c.first_of.ensures
+unfolding command_bytes
+returns c =
     c.put_command.ensures
+    ∙ ap (λ (t : List ℕ). inked (encoded c.args.said.asked t) c.args.page.now)
+    (c.first_of.ensures ∙ fresh_text 65536 _ _ _ (ap sheet c.new-data.ensures) c.put_meant.ensures)

@@ -1,18 +1,13 @@
-use mathlib.Core.Path.{refl, ◌∙◌}
+use Rattle.std.proofs.Common.{refl, ap, rules}
+use Rattle.counter.specs.Holds.{partly}
 use Rattle.counter.specs.Whole.{none_yet, one_more_lem}
 use Rattle.counter.proofs.input.next_line.Goals as goal
 
-pub loop-turns-init : goal.loop-turns-init
-loop-turns-init c = (refl, none_yet _)
+pub loop-init : goal.loop-init
+loop-init c = rw c.new.ensures (none_yet _, refl)
 
-pub returns-then-got : goal.returns-then-got
-returns-then-got c = one_more_lem _ _ c.loop-turns.invariant.1 _ _ c.take_letter-got.ensures
+pub returns-then-got-clause-line : goal.returns-then-got-clause-line
+returns-then-got-clause-line c = one_more_lem _ _ c.loop.invariant.0 _ _ (ap partly c.take_letter.ensures)
 
-pub returns-in-Ended : goal.returns-in-Ended
-returns-in-Ended c = c.loop-turns.invariant.1
-
-pub loop-turns-preserved : goal.loop-turns-preserved
-loop-turns-preserved c = (c.take_letter-got.auto.line ∙ c.loop-turns.invariant.0, one_more_lem _ _ c.loop-turns.invariant.1 _ _ c.take_letter-got.ensures)
-
-pub returns : goal.returns
-returns c = c.loop-turns.invariant.1
+pub loop-preserved : goal.loop-preserved
+loop-preserved c = (one_more_lem _ _ c.loop.invariant.0 _ _ (ap partly c.take_letter.ensures), search rules)

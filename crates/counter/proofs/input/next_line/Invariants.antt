@@ -1,11 +1,8 @@
-use mathlib.Core.Path.{◌≡◌}
-use lib.ListN.{length}
-use Rattle.counter.specs.Input.{partly}
+use Rattle.std.proofs.Common.{◌≡◌}
+use Rattle.counter.specs.Holds.{partly}
 use Rattle.counter.specs.Whole.{SomeLine}
 use Rattle.counter.proofs.input.next_line.Given as goal
 
-abbrev pub invariant-loop-turns : goal.invariant-loop-turns
-invariant-loop-turns l = (length l.line ≡ length l.initial.line) × SomeLine l.initial.line (partly l.line l.got)
-
-abbrev pub decreases-loop-turns : goal.decreases-loop-turns
-decreases-loop-turns l = l.turns
+-- some line, as far as it has come, on the room that was lent
+abbrev pub invariant-loop : goal.invariant-loop
+invariant-loop l = SomeLine l.fn.line (partly l.got) × (l.got.letters.letters.ghost_name ≡ l.initial.got.letters.letters.ghost_name)
