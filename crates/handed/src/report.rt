@@ -1,7 +1,10 @@
-// A line for each case, in plain words, and how many of them were wrong. By `io`: `println!` is no plainer here, with a handle
-// through every function and a result that none can use; and a page of `printout` has its bytes in upper case.
-use crate::answers::{number_of, written};
+// A line for each case, in plain words, and how many of them were wrong.
+// By `io`: `println!` is no plainer here, with a handle through every function and a result that
+// none can use, and a page of `printout` has its bytes in upper case. `vectors` prints by the same
+// few lines: a crate below both for them is no plainer.
+use crate::answers::written;
 use io::{print_decimal, print_hex, write_all};
+use rules::answers::number_of;
 use rules::{Outcome, Refusal};
 
 #[derive(Clone, Copy, Default)]

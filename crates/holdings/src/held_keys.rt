@@ -4,7 +4,7 @@ use cipher::keys::{DataKey, InterchangeKey, Vector};
 use cipher::modes::Mode;
 use exchange::data_keys::{ldk, rdk};
 use exchange::vectors::liv;
-use handed::answers::{block_of, state_after};
+use handed::answers::block_of;
 use handed::entries::{FIVE, entry};
 use handed::given::{
     HIGH, LOW, NONE, active, both, facility, missing, nothing, place, seated, side,
@@ -13,6 +13,7 @@ use handed::published::{HIGH_BIT, HIGH_KEY, HIGH_ZEROS, LOW_HIGH_BIT, LOW_ZEROS,
 use handed::report::Tally;
 use officer::{eik, ipw, rpw};
 use records::by_mode;
+use rules::answers::state_after;
 use rules::{Outcome, Refusal};
 use state::{Facility, Held, Holdings};
 

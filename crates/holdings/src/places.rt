@@ -3,13 +3,13 @@ use admission::{host_logout, lau, ras};
 use cipher::keys::{DataKey, Vector};
 use cipher::modes::Mode;
 use exchange::data_keys::ldk;
-use handed::answers::state_after;
 use handed::entries::{FIVE, entry};
 use handed::flat::{are_others_alike, flat};
 use handed::given::{all_of, both, free, missing, nothing, place, ready, seated, side};
 use handed::published::{HIGH_BIT, HIGH_ZEROS, LOW_HIGH_BIT, LOW_ZEROS, ONES, ZEROS};
 use handed::report::Tally;
 use records::by_mode;
+use rules::answers::state_after;
 use rules::{Outcome, Refusal};
 use state::{Facility, Held, Holdings, Place};
 

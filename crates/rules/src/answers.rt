@@ -1,7 +1,8 @@
-// Answers: a refusal, where its condition holds, and the outcomes of what is done.
+// Answers: the numbers of refusals, the outcomes of what is done, and what an answer tells.
 ghost use Rattle.std.specs.Prelude.{◌≡◌};
 ghost use Rattle.rules.specs.Refusals.{number};
-ghost use Rattle.rules.specs.Outcomes.{refusal_of, done_of, gave_of, wrote_of};
+ghost use Rattle.rules.specs.Step.{number_of};
+ghost use Rattle.rules.specs.Outcomes.{answer_of, state_of, refusal_of, done_of, gave_of, wrote_of};
 
 use crate::{Outcome, Refusal, Reply};
 use cipher::modes::Misfit;
@@ -70,5 +71,25 @@ pub fn wrote(state: Facility, n: usize) -> Outcome
     Outcome {
         state,
         reply: Reply::Output(n),
+    }
+}
+
+// The page's number of an answer.
+pub fn number_of(answer: &Result<Outcome, Refusal>) -> u8
+    ensures { result ≡ number_of (answer_of answer.now) }
+{
+    match answer {
+        Ok(_) => 0,
+        Err(why) => u8::from(*why),
+    }
+}
+
+// The facility after an answer: a refusal leaves it.
+pub fn state_after(f: Facility, answer: &Result<Outcome, Refusal>) -> Facility
+    ensures { result ≡ state_of f answer.now }
+{
+    match answer {
+        Ok(outcome) => outcome.state,
+        Err(_) => f,
     }
 }

@@ -1,14 +1,14 @@
 // A stream carried out: its commands one after the other, and a line for each.
 ghost use Rattle.std.specs.Prelude.{◌≡◌, ◌+◌, ◌<◌, ◌^◌};
 ghost use Rattle.rules.specs.World.{over};
-ghost use Rattle.rules.specs.Step.{number_of};
-ghost use Rattle.rules.specs.Outcomes.{answer_of, block_of, state_of, left};
+ghost use Rattle.rules.specs.Outcomes.{answer_of, block_of, left};
 ghost use Rattle.printout.specs.Inked.{sheet, bearing};
 ghost use Rattle.session.specs.Run.{answer_to, shown_of, reached, turn_of, leaves, printed_run};
 
 use facility::perform;
 use printout::lines::put_line;
 use printout::page::{Page, first_of};
+use rules::answers::{number_of, state_after};
 use rules::{Outcome, Refusal, Reply};
 use state::Facility;
 use stream::Field;
@@ -32,16 +32,6 @@ pub fn answer_to(
     }
 }
 
-// The page's number of an answer.
-pub fn number_of(answer: &Result<Outcome, Refusal>) -> u8
-    ensures { result ≡ number_of (answer_of answer.now) }
-{
-    match answer {
-        Ok(_) => 0,
-        Err(why) => u8::from(*why),
-    }
-}
-
 // The bytes returned or, for a mode, written; `out` is the output as the command left it.
 pub fn shown<'a>(answer: &'a Result<Outcome, Refusal>, out: &'a [u8]) -> &'a [u8]
     ensures { result.now ≡ shown_of (answer_of answer.now) (block_of answer.now) out.now }
@@ -53,16 +43,6 @@ pub fn shown<'a>(answer: &'a Result<Outcome, Refusal>, out: &'a [u8]) -> &'a [u8
         Reply::Plain => &[],
         Reply::Block(block) => block,
         Reply::Output(n) => first_of(out, *n),
-    }
-}
-
-// The facility after an answer: a refusal leaves it.
-pub fn state_after(f: Facility, answer: &Result<Outcome, Refusal>) -> Facility
-    ensures { result ≡ state_of f answer.now }
-{
-    match answer {
-        Ok(outcome) => outcome.state,
-        Err(_) => f,
     }
 }
 

@@ -10,13 +10,9 @@ fn number(n: u64) {
     print_decimal(1, n);
 }
 
-fn byte(b: u8) {
-    print_hex(1, u64::from(b), 2);
-}
-
 fn bytes(s: &[u8]) {
     for b in s {
-        byte(*b);
+        print_hex(1, u64::from(*b), 2);
     }
 }
 
