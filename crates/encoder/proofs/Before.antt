@@ -15,6 +15,7 @@ use Rattle.stream.specs.GrammarLaws.{ascending}
 use Rattle.stream.proofs.GrammarLaws.{above, later, arguments_ordered}
 use Rattle.stream.proofs.Kept.{Form, form_of}
 use Rattle.encoder.specs.Encoded.{encoded_with, encoded}
+use Rattle.encoder.specs.Written.{one_size, all_sizes}
 use Rattle.encoder.proofs.ByForm.{pick_size}
 use Rattle.encoder.proofs.Kept.{at_most}
 
@@ -235,3 +236,33 @@ module _ (a : Request) (d x : Bytes) (f : Form) (n : ℕ) (eight : (length a.blo
       two (a.tag ∷ digits 256 2 n) (all_fields f.arguments a d) p q r e' e
       ∙ ap₂ (λ (m : ℕ) (g : Form). entered ((a.tag ∷ digits 256 2 m) ++ all_fields g.arguments a d) p) same_size form
       ∙ ap (λ (y : Bytes). entered y p) (sym (whole_before a d eight (omega (arith, same_size))))
+
+-- ---- today's sizes, which know no zeros, are these
+
+none_sized : (n x : ℕ) → all_sizes_before (padded n []) x ≡ 0
+unfolding padded all_sizes_before one_size_before
+none_sized zero x = refl
+none_sized (suc n) x = omega (arith, none_sized n x)
+
+pub same_one : (k x : ℕ) → 0 < k → one_size_before k x ≡ one_size k x
+unfolding one_size_before one_size
+same_one k x h = rw (ne_eqb k 0 (λ e. omega (arith, h, e)))
+
+pub same_sizes : (n m : ℕ) (ks : List ℕ) (x : ℕ) → ascending m ks ≡ true → length ks ≤ n
+    → all_sizes_before (padded n ks) x ≡ all_sizes ks x
+unfolding padded all_sizes_before all_sizes
+same_sizes n m [] x h l = none_sized n x
+same_sizes zero m (k ∷ ks) x h l = absurd (not-suc-le-zero l)
+same_sizes (suc n) m (k ∷ ks) x h l =
+    let up = above m k ks h in
+    let rest = same_sizes n k ks x (later m k ks h) (le_of_suc-le-suc l) in
+    ap₂ (λ (y z : ℕ). y + z) (same_one k x (omega arith)) rest
+
+module _ (t x : ℕ) where
+  pub same_form : (ks : List ℕ) → arguments_of t ≡ Some ks → form_size (form_of t) x ≡ all_sizes ks x
+  unfolding form_size form_of
+  same_form ks e = let o = arguments_ordered t ks e in rw e (same_sizes 5 0x80 ks x o.0 o.1)
+
+  pub no_form : arguments_of t ≡ None → form_size (form_of t) x ≡ 65536
+  unfolding form_size form_of
+  no_form e = rw e
