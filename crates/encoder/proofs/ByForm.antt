@@ -24,7 +24,7 @@ fields_more ks a d i h = parts_more (λ k. field k (argument k a d)) (λ js. spe
 
 -- ---- the lengths of the argument fields
 
-pick_size : (b : Bool) (x y : Bytes) (m n : ℕ) → 3 + length x ≡ m → 3 + length y ≡ n → 3 + length (cond b x y) ≡ cond b m n
+pub pick_size : (b : Bool) (x y : Bytes) (m n : ℕ) → 3 + length x ≡ m → 3 + length y ≡ n → 3 + length (cond b x y) ≡ cond b m n
 pick_size true x y m n e f = e
 pick_size false x y m n e f = f
 

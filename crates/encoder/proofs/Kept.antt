@@ -18,7 +18,7 @@ pub fields_end : (ks : List ℕ) (a : Request) (d : Bytes) (i : ℕ) (p : Page) 
 unfolding spelled entered
 fields_end ks a d i p h = rw drop_of_length-le
 
-at_most : (m : ℕ) (b : Bool) (x y : ℕ) → x ≤ m → y ≤ m → cond b x y ≤ m
+pub at_most : (m : ℕ) (b : Bool) (x y : ℕ) → x ≤ m → y ≤ m → cond b x y ≤ m
 at_most m true x y h k = h
 at_most m false x y h k = k
 

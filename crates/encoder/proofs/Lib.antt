@@ -1,3 +1,4 @@
 pub mod ByForm
+pub mod Before
 pub mod Kept
 pub mod RoundTrip

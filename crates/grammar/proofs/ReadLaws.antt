@@ -1,15 +1,17 @@
 -- A command's words, read one by one: what fits says the fields, and words that say the fields fit.
 use Rattle.std.specs.Prelude.{◌≡◌, Bool, cond, length, drop}
 use Rattle.std.proofs.Math.Path.{refl, ap, subst}
-use Rattle.std.proofs.Common.{sym, ◌∙◌, arith, eqb-true, eq-eqb}
+use Rattle.std.proofs.Common.{sym, ◌∙◌, le_of_suc-le-suc, not-suc-le-zero, arith, eqb-true, eq-eqb}
 use Rattle.std.proofs.Math.Bool.{true, false, true≢false}
 use Rattle.std.proofs.lemmas.Bool.{false≢true}
 use mathlib.Core.List.{List, [], ◌∷◌}
-use Prim.Native.Nat.{ℕ, ◌≤◌, ◌<◌}
+use Prim.Native.Nat.{ℕ, zero, suc, ◌≤◌, ◌<◌}
 use Rattle.std.proofs.Math.Dec.{eqb}
 use Rattle.ground.specs.Search.{by_test}
+use Rattle.ground.specs.Lists.{padded}
 use Rattle.reader.specs.Line.{Line, wrong_line}
 use Rattle.reader.specs.Command.{after, took_value, took_word, read_word, read_words, nothing_else, ended_line}
+use Rattle.reader.proofs.SameFields.{word_or_none, words_or_none}
 use Rattle.stream.specs.declared.Request.{Request}
 use Rattle.stream.specs.Fields.{Bytes}
 use Rattle.stream.specs.Grammar.{argument, among}
@@ -124,6 +126,15 @@ module _ (l kept ends : List ℕ) where
 
   fit_before : (ks : List ℕ) (r : Line) → (read_words l kept ends r ks).fits ≡ true → r.fits ≡ true
   fit_before ks r h = by_test r.fits (λ e. e) (λ e. absurd (false≢true (sym (stuck ks r e) ∙ h)))
+
+  -- zeros are passed over
+  pub words-padded : (r : Line) (n : ℕ) (ks : List ℕ) → length ks ≤ n
+      → words_or_none l kept ends r (padded n ks) ≡ words_or_none l kept ends r ks
+  unfolding padded
+  words-padded r zero [] h = refl
+  words-padded r zero (k ∷ ks) h = absurd (not-suc-le-zero h)
+  words-padded r (suc n) [] h = words-padded r n [] (omega arith)
+  words-padded r (suc n) (k ∷ ks) h = words-padded (word_or_none l kept ends r k) n ks (le_of_suc-le-suc h)
 
   -- ---- what fits says the fields
 

@@ -42,16 +42,17 @@ fn read_word(line: &[u8], answers: Answers, r: Line, field: u8) -> Result<Line, 
     })
 }
 
-// The line, if no word follows.
-#[tactic(auto, unfolding(crate::specs::Command::ended_line, crate::specs::Command::nothing_else))]
-pub fn end_line(line: &[u8], r: Line) -> Result<Line, Wrong>
-    ensures { line_as result ≡ ended_line line.now (line_as (Ok r)) }
+// The line, if it is one and no word follows.
+#[tactic(auto, unfolding(crate::specs::Command::ended_line, crate::specs::Command::nothing_else, crate::specs::Line::wrong_line))]
+pub fn end_line(line: &[u8], r: Result<Line, Wrong>) -> Result<Line, Wrong>
+    ensures { line_as result ≡ ended_line line.now (line_as r) }
 {
-    match word_at(line, r.at) {
+    let read = r?;
+    match word_at(line, read.at) {
         Word::PlainWord { start, .. } => Err(Wrong::at(start, Expected::NothingMore)),
         Word::TextWord { start, .. } => Err(Wrong::at(quote_before(start), Expected::NothingMore)),
         Word::Broken { at, expected } => Err(Wrong { at, expected }),
-        Word::NoWord { .. } => Ok(r),
+        Word::NoWord { .. } => Ok(read),
     }
 }
 
@@ -64,5 +65,5 @@ pub fn command_line(tag: u8, line: &[u8], answers: Answers, at: usize) -> Result
     for field in form_of(tag).unwrap_or(&[]) {
         r = read_word(line, answers, r, *field)?;
     }
-    end_line(line, r)
+    end_line(line, Ok(r))
 }

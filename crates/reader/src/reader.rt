@@ -19,7 +19,7 @@ use words::{Expected, Word, Wrong};
 fn alone(says: Says, line: &[u8], at: usize) -> Result<Line, Wrong>
     ensures { line_as result ≡ alone_line says line.now at }
 {
-    end_line(line, Line::so_far(says, 0, at, NO_BYTES))
+    end_line(line, Ok(Line::so_far(says, 0, at, NO_BYTES)))
 }
 
 // The first word stands from `from` to `at`.

@@ -3,10 +3,13 @@ use Rattle.std.specs.Prelude.{◌≡◌, refl, List, [], ◌∷◌, ℕ, zero, s
 use Rattle.std.proofs.Common.{sym, ap, ap₂, ◌∙◌, arith, add-one, length-drop, drop_of_length-le, drop-cons, take_all}
 use Rattle.std.proofs.Math.Seq.{take-nil}
 use Rattle.printout.specs.Page.{Page, entered, then}
+use Rattle.stream.specs.declared.Request.{Request}
 use Rattle.stream.specs.Fields.{part}
 use Rattle.words.specs.declared.Word.{Word}
 use Rattle.words.specs.Split.{word_at}
 use Rattle.values.specs.Sources.{hex_value, unhex, word_bytes, raw_next, raw_from}
+use Rattle.values.specs.Values.{Value, fitting}
+use Rattle.values.specs.Fields.{value_bytes, with_value}
 
 -- ---- one step of each, for a loop
 
@@ -70,3 +73,10 @@ part_past start end s h = ap (take (end - start)) (drop_of_length-le s h) ∙ ta
 
 pub part_rest : (start end : ℕ) (s : List ℕ) → length s ≤ end → part start end s ≡ drop start s
 part_rest start end s h = take_all (end - start) (drop start s) (omega (arith, length-drop start s))
+
+-- ---- a field of any value, one that does not fit too
+
+-- only its number and its bytes are read
+pub any_value : (k : ℕ) (v : Value) (l kept : List ℕ) (a : Request) → with_value k v l kept a ≡ with_value k (fitting v.number v.bytes) l kept a
+unfolding with_value value_bytes fitting
+any_value k v l kept a = refl
