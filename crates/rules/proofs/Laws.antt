@@ -124,13 +124,13 @@ number_above Cut h = omega (arith, h)
 
 module _ (f : Facility) (c : Command) (t out : Bytes) where
   -- some condition holds: refused
-  pub by_refusal : (e : Refusal) → first_of (tests c (over f t) out) ≡ number e → result (plain (Refused (number e)) out) (over f t) ≡ step (over f t) c out
-  by_refusal e z = rw (halves (over f t) c out, z, ne_eqb (number e) 0 (number_above e)) refl
+  pub by_refusal : (n : ℕ) → n ≡ first_of (tests c (over f t) out) → (n ≡ 0 → ⊥) → result (plain (Refused n) out) (over f t) ≡ step (over f t) c out
+  by_refusal n e z = rw (halves (over f t) c out, ← e, ne_eqb n 0 z)
 
   -- left where a step answered with a refusal
   pub at_exit : (r : Rattle.std.specs.Prelude.Result Outcome Refusal) (P : Type 0) (x why : Refusal) → IsErrAnd r (λ y. y ≡ x) → P × (x ≡ why)
       → first_of (tests c (over f t) out) ≡ number why → left f r t out ≡ step (over f t) c out
-  at_exit r P x why h w z = let p = err_from_is_err_and r h in rw (p.1, p.2, w.1) (by_refusal why z)
+  at_exit r P x why h w z = let p = err_from_is_err_and r h in rw (p.1, p.2, w.1) (by_refusal (number why) (sym z) (number_above why))
 
   -- none holds: the effect
   pub by_effect : first_of (tests c (over f t) out) ≡ 0 → (a : Result) → a ≡ effected (over f t) c out → a ≡ step (over f t) c out

@@ -2,8 +2,8 @@
 ghost use Rattle.std.specs.Prelude.{◌≡◌, ◌+◌, ◌<◌, ◌^◌};
 ghost use Rattle.rules.specs.World.{over};
 ghost use Rattle.rules.specs.Outcomes.{answer_of, block_of, left};
-ghost use Rattle.printout.specs.Inked.{sheet, bearing};
-ghost use Rattle.session.specs.Run.{answer_to, shown_of, reached, turn_of, leaves, printed_run};
+ghost use Rattle.printout.specs.Inked.{sheet, bearing, inked};
+ghost use Rattle.session.specs.Run.{answer_to, answered, shown_of, line_of, reached, turn_of, leaves, printed_run};
 
 use facility::perform;
 use printout::lines::put_line;
@@ -46,6 +46,20 @@ pub fn shown<'a>(answer: &'a Result<Outcome, Refusal>, out: &'a [u8]) -> &'a [u8
     }
 }
 
+// The line of an answer.
+pub fn put_answer(
+    page: &mut Page,
+    ordinal: usize,
+    tag: u8,
+    answer: &Result<Outcome, Refusal>,
+    out: &[u8],
+)
+    ensures { page.new ≡ inked (line_of ordinal (answered tag (record { answer = answer_of answer.now; block = block_of answer.now; output = out.now }))) page.old }
+{
+    let number = number_of(answer);
+    put_line(page, ordinal, tag, number, shown(answer, out));
+}
+
 // How far a run has come: the facility, and the next line's ordinal.
 #[derive(Clone, Copy)]
 pub struct Going {
@@ -70,15 +84,14 @@ fn turn(
     match next {
         Field::Whole { tag, .. } => {
             let answer = answer_to(d.state, table, out, tag, value);
-            let number = number_of(&answer);
-            put_line(page, d.ordinal, tag, number, shown(&answer, out));
+            put_answer(page, d.ordinal, tag, &answer, out);
             Going {
                 state: state_after(d.state, &answer),
                 ordinal: d.ordinal + 1,
             }
         }
         Field::Cut { tag } => {
-            put_line(page, d.ordinal, tag, u8::from(Refusal::Cut), &[]);
+            put_answer(page, d.ordinal, tag, &Err(Refusal::Cut), out);
             d
         }
         Field::End => d,

@@ -2,7 +2,7 @@
 use Rattle.std.specs.Prelude.{◌≡◌, refl, Bool, cond, [], ◌∷◌, eqb, length, take, drop}
 use Rattle.std.proofs.Common.{sym}
 use Rattle.std.proofs.Math.Path.{subst}
-use Rattle.std.proofs.Math.Option.{Option, none, some}
+use Rattle.std.specs.Prelude.{Option, None, Some}
 use Prim.Native.Nat.{ℕ, zero, suc, ◌≤◌}
 use native.Mathlib.Omega.{arith}
 use Rattle.ground.specs.Search.{by_test}
@@ -16,7 +16,8 @@ use Rattle.rules.specs.Refusals.{first_of}
 use Rattle.rules.specs.Step.{told, rule, settled, step_by, step}
 use Rattle.facility.specs.Requests.{command_of, carried_out, performed}
 use Rattle.properties.proofs.Demand1.{demand_1}
-use Rattle.session.specs.Run.{answer_to}
+use Rattle.stream.specs.declared.Reading.{Reading}
+use Rattle.session.specs.Run.{obeyed, answer_to}
 use Rattle.readings.specs.Shown.{shown_in}
 use Rattle.sittings.specs.Outputs.{Kept}
 
@@ -46,7 +47,7 @@ module _ (n : ℕ) (eight : 8 ≤ n) where
   effect-shown u (RDK p i f b) o out h = reply-shown (told (effect u (RDK p i f b) o) out).block
   effect-shown u (mode m d) o out h =
       let side = mode_side m o.seat.holdings in
-      output-shown (length (mode_text m side.key.key.0 side.vector.vector.0 d)) (told (effect u (mode m d) o) out).output h
+      output-shown (length (mode_text m side.key.value.0 side.vector.value.0 d)) (told (effect u (mode m d) o) out).output h
   effect-shown u (DAUT f d) o out h = reply-shown (told (effect u (DAUT f d) o) out).block
 
   user_shown : (w : World) (u : ℕ) (c : UserCommand) (out : Bytes) → length (step_by w u c out).answered.output ≤ n → length (shown_in (step_by w u c out).answered) ≤ n
@@ -74,17 +75,17 @@ module _ (n : ℕ) (eight : 8 ≤ n) where
   step-shown w (logout u) out h = user_shown w u LAU out h
 
 carried : (w : World) (c : Option Command) (out : Bytes) → Kept out (carried_out w c out)
-carried w none out = (refl, λ n e h. omega arith)
-carried w (some c) out = let size = (demand_1 w c out).size in (size, λ n e h. step-shown n e w c out (omega (arith, size, h)))
+carried w None out = (refl, λ n e h. omega arith)
+carried w (Some c) out = let size = (demand_1 w c out).size in (size, λ n e h. step-shown n e w c out (omega (arith, size, h)))
 
 module _ (w : World) (t : ℕ) (v out : Bytes) where
   answer_kept : Kept out (answer_to w t v out)
   unfolding answer_to performed
-  answer_kept =
-      let r = decoded t v in
-      by_test r.fits
-      (λ e. rw e (carried w (command_of r.asked (drop r.text v)) out))
-      (λ e. rw e (carried w none out))
+  answer_kept = read (decoded t v)
+    where
+      read : (r : Option Reading) → Kept out (obeyed w r v out)
+      read None = carried w None out
+      read (Some r) = carried w (command_of r.asked (drop r.text v)) out
 
   -- the output is as long as it was
   pub same-output : length (answer_to w t v out).answered.output ≡ length out
