@@ -11,6 +11,7 @@ use reader::Line;
 use words::Wrong;
 
 // A line as far as it has come: its letters, whether it has more than found room, and whether its line feed has come.
+// (Two marks, and no enum for how a line ended: it may have both, one or none; and `specs/Input.one_more` speaks of any two.)
 #[derive(Drop)]
 pub struct Got<'a> {
     pub letters: Page<'a>,
@@ -43,7 +44,8 @@ fn next_letter() -> Option<u8> {
     }
 }
 
-// The next line, without its line feed; not complete where the input has ended. (What the input holds no contract can say: this one says that some line stands there.)
+// The next line, without its line feed; not complete where the input has ended.
+// (What the input holds no contract can say: this one says that some line stands there.)
 pub fn next_line(line: &mut [u8]) -> Got<'_>
     ensures line { (l : List ℕ) × (no_feed l ≡ true) × (partly result ≡ line_in line.old result.complete l) }
     ensures lent { result.letters.letters.ghost_name ≡ line.entry.ghost_name }

@@ -15,6 +15,7 @@ pub fn room() -> [u8; 1048576]
 }
 
 // The answers so far: their bytes, as far as they found room; where each ends there, behind a 0; and how many there are.
+// (The count stands beside the ends, since it runs on past them.)
 #[derive(Drop)]
 pub struct Books<'a> {
     pub kept: Page<'a>,

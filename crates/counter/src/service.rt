@@ -1,11 +1,11 @@
 // A piece of stream carried out, at the desk with its answers in words.
-ghost use Rattle.std.specs.Prelude.{◌≡◌, ◌++◌, take};
+ghost use Rattle.std.specs.Prelude.{◌≡◌, ◌++◌};
 ghost use Rattle.printout.specs.Inked.{sheet, bearing, inked};
 ghost use Rattle.printout.specs.Lines.{line};
 ghost use Rattle.talk.specs.Replies.{words_of};
 ghost use Rattle.counter.specs.Kept.{next, with_bytes};
-ghost use Rattle.counter.specs.Holds.{books_as, with_books, desk_as, left_as};
-ghost use Rattle.counter.specs.Holds.{answered_with, told_with, turn_as, turn_with, carried_with};
+ghost use Rattle.counter.specs.Holds.{text, books_as, with_books, at_desk, desk_as, left_as};
+ghost use Rattle.counter.specs.Holds.{answered_with, told_with, turned_as, turn_with, carried_with};
 
 use crate::kept::Books;
 use clerk::replies::put_reply;
@@ -27,16 +27,9 @@ pub struct Desk<'a> {
     pub books: Books<'a>,
 }
 
-// What a command leaves: the desk, and where the piece goes on.
-#[derive(Drop)]
-pub struct Turn<'a> {
-    pub desk: Desk<'a>,
-    pub at: usize,
-}
-
 // What stands on a page.
 pub fn text_of<'a>(page: &'a Page) -> &'a [u8]
-    ensures { result.now ≡ take page.now.filled page.now.letters.now }
+    ensures { result.now ≡ text page.now }
 {
     first_of(page.letters, page.filled)
 }
@@ -59,68 +52,68 @@ impl Books<'_> {
     }
 }
 
-impl<'a> Desk<'a> {
-    // The command of this tag and value, with its answer.
-    #[tactic(auto, unfolding(crate::specs::Kept::booked, clerk::specs::Replies::reply))]
-    fn serve(self, tag: u8, value: &[u8], paper: &mut Page) -> Desk<'a>
-        ensures desk { result ≡ left_as (answered_with tag value.now (desk_as self.entry)) self.entry }
-        ensures paper { paper.new ≡ inked (told_with tag value.now (desk_as self.entry)) paper.old }
-    {
-        let Desk {
-            state,
-            table,
-            out,
-            mut books,
-        } = self;
-        let answer = answer_to(state, table, out, tag, value);
-        books.give(tag, number_of(&answer), shown(&answer, out), paper);
-        Desk {
-            state: state_after(state, &answer),
-            table,
-            out,
-            books,
-        }
-    }
+// The command of this tag and value, with its answer; and the facility after it.
+// (The desk's parts one by one: of a lent desk, no rule lets the books change while the output is read.)
+#[tactic(auto, unfolding(crate::specs::Kept::booked, clerk::specs::Replies::reply))]
+fn serve(
+    state: Facility,
+    table: &mut [u8],
+    out: &mut [u8],
+    books: &mut Books,
+    tag: u8,
+    value: &[u8],
+    paper: &mut Page,
+) -> Facility
+    ensures desk { at_desk result table.new out.new books.new ≡ answered_with tag value.now (at_desk state table.old out.old books.old) }
+    ensures books { books.new ≡ with_books (books_as books.new) books.old }
+    ensures paper { paper.new ≡ inked (told_with tag value.now (at_desk state table.old out.old books.old)) paper.old }
+{
+    let answer = answer_to(state, table, out, tag, value);
+    books.give(tag, number_of(&answer), shown(&answer, out), paper);
+    state_after(state, &answer)
+}
 
-    // The command that stands at a place of the piece, with its answer from the start of the paper. A field that runs past the piece's end is 17, and the rest is not read.
+impl Desk<'_> {
+    // The command that stands at a place of the piece, with its answer from the start of the paper; and where the piece goes on.
+    // A field that runs past the piece's end is 17, and the rest is not read.
     #[tactic(auto, using(stream::specs::Fields::value_whole), unfolding(crate::specs::Service::turn_at, crate::specs::Kept::booked, clerk::specs::Replies::reply, printout::specs::Inked::inked))]
-    pub fn next_command(mut self, piece: &[u8], at: usize, paper: &mut Page) -> Turn<'a>
-        ensures turn { turn_as result paper.new ≡ turn_with piece.now at (desk_as self.entry) paper.old.letters.now }
-        ensures desk { result.desk ≡ left_as (desk_as result.desk) self.entry }
+    pub fn next_command(&mut self, piece: &[u8], at: usize, paper: &mut Page) -> usize
+        ensures turn { turned_as self.new paper.new result ≡ turn_with piece.now at (desk_as self.old) paper.old.letters.now }
+        ensures desk { self.new ≡ left_as (desk_as self.new) self.old }
         ensures paper { paper.new ≡ bearing (sheet paper.new) paper.old }
     {
         paper.filled = 0;
         match field_at(piece, at) {
-            Field::Whole { tag, end, .. } => Turn {
-                desk: self.serve(tag, value_at(piece, at), paper),
-                at: end,
-            },
+            Field::Whole { tag, end, .. } => {
+                let value = value_at(piece, at);
+                self.state = serve(
+                    self.state,
+                    self.table,
+                    self.out,
+                    &mut self.books,
+                    tag,
+                    value,
+                    paper,
+                );
+                end
+            }
             Field::Cut { tag } => {
                 self.books.give(tag, u8::from(Refusal::Cut), &[], paper);
-                Turn {
-                    desk: self,
-                    at: piece.len(),
-                }
+                piece.len()
             }
-            Field::End => Turn {
-                desk: self,
-                at: piece.len(),
-            },
+            Field::End => piece.len(),
         }
     }
 
     // The commands of a piece, one after the other.
-    pub fn carry_out(self, speaks: bool, piece: &[u8], paper: &mut Page) -> Desk<'a>
-        ensures { result ≡ left_as (carried_with piece.now (desk_as self.entry)) self.entry }
+    pub fn carry_out(&mut self, speaks: bool, piece: &[u8], paper: &mut Page)
+        ensures desk { self.new ≡ left_as (carried_with piece.now (desk_as self.old)) self.old }
+        ensures paper { paper.new ≡ bearing (sheet paper.new) paper.old }
     {
-        let mut desk = self;
         let mut at: usize = 0;
         while at < piece.len() {
-            let turn = desk.next_command(piece, at, paper);
+            at = self.next_command(piece, at, paper);
             tell(speaks, paper);
-            desk = turn.desk;
-            at = turn.at;
         }
-        desk
     }
 }

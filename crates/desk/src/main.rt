@@ -4,15 +4,15 @@
 
 use clerk::told::put_told;
 use counter::input::{is_last, next_line};
-use counter::kept::room;
-use counter::line::serve_line;
-use counter::service::Desk;
+use counter::kept::{Books, room};
+use counter::service::{Desk, text_of};
 use io::write_all;
-use printout::page::first_of;
+use printout::page::Page;
 use reader::Line;
 use state::Facility;
 use state::places::fresh_facility;
 use std::io::IsTerminal;
+use words::Wrong;
 
 // On a terminal the desk greets and asks for each line; in a pipe it only answers.
 fn at_terminal(rt: &HostRuntime) -> bool {
@@ -36,59 +36,29 @@ fn ask(asks: bool) {
 
 // Where the input ended, the last line on the screen is a `> `: it is ended.
 fn part(asks: bool, complete: bool) {
-    if asks {
-        if !complete {
-            write_all(1, b"\n");
-        }
+    if asks && !complete {
+        write_all(1, b"\n");
     }
 }
 
 // What the desk itself says of a line: nothing where there was something to carry out (`clerk/specs/Told.one_of_them`).
-fn tell(number: usize, said: Line, state: Facility, paper: &mut [u8]) {
-    let told = put_told(&mut paper[..], 0, number, said, state);
-    write_all(1, first_of(&paper[..], told));
+fn tell(number: usize, said: Result<Line, Wrong>, state: Facility, paper: &mut Page) {
+    paper.filled = 0;
+    put_told(paper, number, said, state);
+    write_all(1, text_of(paper));
 }
 
 // The lines one after the other, each answered before the next is read.
-fn serve(
-    asks: bool,
-    line: &mut [u8],
-    table: &mut [u8],
-    out: &mut [u8],
-    kept: &mut [u8],
-    ends: &mut [usize],
-    piece: &mut [u8],
-    paper: &mut [u8],
-) {
-    let mut desk = Desk {
-        state: fresh_facility(),
-        answers: 0,
-        used: 0,
-    };
-    let mut number: usize = 0;
-    while number < 1000000 {
-        number += 1;
+fn serve(asks: bool, desk: &mut Desk, line: &mut [u8], piece: &mut Page, paper: &mut Page) {
+    for number in 1..=1000000 {
         ask(asks);
-        let got = next_line(&mut line[..]);
-        let served = serve_line(
-            desk,
-            true,
-            first_of(&line[..], got.letters),
-            got.longer,
-            &mut table[..],
-            &mut out[..],
-            &mut kept[..],
-            &mut ends[..],
-            &mut piece[..],
-            &mut paper[..],
-        );
-        let said = served.said;
-        tell(number, said, desk.state, &mut paper[..]);
-        if is_last(got, said) {
+        let got = next_line(line);
+        let said = desk.serve_line(true, text_of(&got.letters), got.longer, piece, paper);
+        tell(number, said, desk.state, paper);
+        if is_last(got.complete, said) {
             part(asks, got.complete);
             return;
         }
-        desk = served.desk;
     }
     write_all(1, b"the desk has read 1000000 lines, and stops\n");
 }
@@ -103,7 +73,17 @@ fn main(rt: HostRuntime) {
     let mut paper = [0u8; 70000];
     let asks = at_terminal(&rt);
     greet(asks);
+    let mut desk = Desk {
+        state: fresh_facility(),
+        table: &mut table,
+        out: &mut out,
+        books: Books::new(&mut kept, &mut ends),
+    };
     serve(
-        asks, &mut line, &mut table, &mut out, &mut kept, &mut ends, &mut piece, &mut paper,
+        asks,
+        &mut desk,
+        &mut line,
+        &mut Page::new(&mut piece),
+        &mut Page::new(&mut paper),
     );
 }

@@ -4,62 +4,32 @@
 
 use clerk::wrong::put_wrong;
 use counter::input::{is_last, next_line};
-use counter::kept::room;
-use counter::line::serve_line;
-use counter::service::Desk;
+use counter::kept::{Books, room};
+use counter::service::{Desk, text_of};
 use io::write_all;
-use printout::page::first_of;
-use reader::Line;
+use printout::page::Page;
 use state::places::fresh_facility;
+use words::Wrong;
 
-fn complain(number: usize, said: Line, paper: &mut [u8]) {
-    let expected = said.expected;
-    let told = put_wrong(&mut paper[..], 0, number, said.at, expected);
-    write_all(2, first_of(&paper[..], told));
+fn complain(number: usize, wrong: Wrong, paper: &mut Page) {
+    paper.filled = 0;
+    put_wrong(paper, number, wrong);
+    write_all(2, text_of(paper));
 }
 
 // The lines one after the other, up to the first bad one: the bytes of each written, and carried out, so that `$n` means what it means at the desk.
-fn write_lines(
-    line: &mut [u8],
-    table: &mut [u8],
-    out: &mut [u8],
-    kept: &mut [u8],
-    ends: &mut [usize],
-    piece: &mut [u8],
-    paper: &mut [u8],
-) {
-    let mut desk = Desk {
-        state: fresh_facility(),
-        answers: 0,
-        used: 0,
-    };
-    let mut number: usize = 0;
-    while number < usize::MAX {
-        number += 1;
-        let got = next_line(&mut line[..]);
-        let served = serve_line(
-            desk,
-            false,
-            first_of(&line[..], got.letters),
-            got.longer,
-            &mut table[..],
-            &mut out[..],
-            &mut kept[..],
-            &mut ends[..],
-            &mut piece[..],
-            &mut paper[..],
-        );
-        let said = served.said;
-        if said.fits {
-            write_all(1, first_of(&piece[..], served.spoken));
-        } else {
-            complain(number, said, &mut paper[..]);
+fn write_lines(desk: &mut Desk, line: &mut [u8], piece: &mut Page, paper: &mut Page) {
+    for number in 1..=usize::MAX {
+        let got = next_line(line);
+        let said = desk.serve_line(false, text_of(&got.letters), got.longer, piece, paper);
+        if let Err(wrong) = said {
+            complain(number, wrong, paper);
             return;
         }
-        if is_last(got, said) {
+        write_all(1, text_of(piece));
+        if is_last(got.complete, said) {
             return;
         }
-        desk = served.desk;
     }
 }
 
@@ -71,7 +41,16 @@ fn main() {
     let mut ends = [0usize; 4097];
     let mut piece = [0u8; 65538];
     let mut paper = [0u8; 70000];
+    let mut desk = Desk {
+        state: fresh_facility(),
+        table: &mut table,
+        out: &mut out,
+        books: Books::new(&mut kept, &mut ends),
+    };
     write_lines(
-        &mut line, &mut table, &mut out, &mut kept, &mut ends, &mut piece, &mut paper,
+        &mut desk,
+        &mut line,
+        &mut Page::new(&mut piece),
+        &mut Page::new(&mut paper),
     );
 }
