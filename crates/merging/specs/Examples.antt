@@ -1,5 +1,5 @@
 -- Runs that are computed, so that no one takes the demand for empty: its premises can be met, and without each of the two bounds on places it fails.
-use Rattle.std.specs.Prelude.{true, false, List, [], ◌∷◌, ◌++◌, map, ℕ, zero, suc, ◌+◌, replicate}
+use Rattle.std.specs.Prelude.{false, List, [], ◌∷◌, ◌++◌, map, ℕ, zero, suc, ◌+◌, replicate}
 use Rattle.cipher.specs.declared.modes.Mode.TheVariants.{Cbce}
 use Rattle.state.specs.declared.Place.{Place}
 use Rattle.state.specs.State.{held, Bytes, no_interchange_key, vacant, seat, bare}

@@ -1,5 +1,5 @@
 -- What a mode answered, where its text is whole blocks: done, or no room for it. And what the two effects come to, opened apart from what refuses them.
-use Rattle.std.proofs.Common.{◌≡◌, refl, ap, ◌∙◌, List, ℕ, ◌%◌, ◌<◌, ◌≤◌, ◌⊎◌, inl, inr, length, Result, Ok, Err}
+use Rattle.std.proofs.Common.{◌≡◌, refl, ap, ◌∙◌, List, ℕ, ◌%◌, ◌<◌, ◌≤◌, ◌⊎◌, inl, inr, length, Ok, Err}
 use Rattle.std.proofs.lemmas.Bool.{cases_lt}
 use Rattle.cipher.specs.declared.modes.Mode.{Mode}
 use Rattle.cipher.specs.declared.keys.Vector.{Vector}

@@ -1,5 +1,5 @@
 -- The forms of the commands' contracts: what the code returned, with the table and the output as it left them, is one step.
-use Rattle.std.specs.Prelude.{◌≡◌, ℕ, length, Result, Ok, Err}
+use Rattle.std.specs.Prelude.{◌≡◌, ℕ, Result, Ok, Err}
 use Rattle.state.specs.declared.Facility.{Facility}
 use Rattle.state.specs.State.{Bytes, zeros}
 use Rattle.rules.specs.declared.Refusal.{Refusal}

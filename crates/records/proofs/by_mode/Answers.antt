@@ -1,5 +1,5 @@
 use Rattle.rules.specs.Outcomes.{refusal_of}
-use Rattle.std.proofs.Common.{◌≡◌, ap, sym, arith, ◌∙◌, ◌<◌, ◌≤◌, length}
+use Rattle.std.proofs.Common.{ap, sym, arith, ◌∙◌, ◌<◌, ◌≤◌, length}
 use Rattle.std.proofs.lemmas.Grind.{common_steps}
 use Rattle.rules.specs.Commands.{tests}
 use Rattle.rules.specs.Refusals.{test}
@@ -7,7 +7,6 @@ use Rattle.state.specs.State.{seat_of}
 use Rattle.rules.proofs.Laws.{at_exit, by_effect, mode_first, good_blocks}
 use Rattle.std.proofs.lemmas.Bool.Decides.{nat_tests}
 use Rattle.cipher.specs.declared.keys.DataKey.{DataKey}
-use Rattle.cipher.specs.declared.keys.Vector.{Vector}
 use Rattle.cipher.proofs.Promise.{mode_text-length}
 use Rattle.records.proofs.Laws.{no_room, mode_done, mode_does}
 use Rattle.records.proofs.by_mode.Goals as goal
