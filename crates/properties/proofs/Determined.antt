@@ -68,10 +68,10 @@ back f (Err e) t out = ap (λ (x : Refusal). Err x) (numbered e)
 -- reply, state, table and output
 pub same : (f : Facility) (r r' : Result Outcome Refusal) (t t' out out' : Bytes) → left f r t out ≡ left f r' t' out' → (r ≡ r') × (t ≡ t') × (out ≡ out')
 same f r r' t t' out out' e = (
-    sym (back f r t out) ∙ ap returned e ∙ back f r' t' out',
-    ap (λ (x : Stepped). x.world.table) e,
-    ap (λ (x : Stepped). x.answered.output) e,
-  )
+  sym (back f r t out) ∙ ap returned e ∙ back f r' t' out',
+  ap (λ (x : Stepped). x.world.table) e,
+  ap (λ (x : Stepped). x.answered.output) e,
+)
 
 pub determined : (f : Facility) (c : Command) (r r' : Result Outcome Refusal) → Steps f c r → Steps f c r' → r ≡ r'
 determined f c r r' p q = (same f r r' [] [] [] [] (p [] [] ∙ sym (q [] []))).0
