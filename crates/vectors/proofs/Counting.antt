@@ -1,6 +1,7 @@
 -- Laws of the counts, and of a table's rows.
-use Rattle.std.proofs.Common.{◌≡◌, ℕ, zero, suc, ◌+◌, ◌*◌, ◌<◌, List, [], refl, get_or, take, drop, slice_index, ap, ◌∙◌, add-one, arith, get_or-take, get_or-drop, drop-drop}
+use Rattle.std.proofs.Common.{◌≡◌, ℕ, zero, suc, ◌+◌, ◌*◌, ◌<◌, ◌≤◌, Bool, true, false, cond, List, [], refl, get_or, take, drop, slice_index, ap, ◌∙◌, add-one, arith, get_or-take, get_or-drop, drop-drop}
 use Rattle.std.specs.Simd.{first_chunks}
+use Rattle.std.specs.Str.{bytes_eq}
 use Rattle.cipher.specs.Cipher.{enciphered, deciphered}
 use Rattle.vectors.specs.Answers.{one, right, key_at, plain_at, cipher_at, forwards, backwards}
 
@@ -19,6 +20,14 @@ row_read t b n i j k e h l f =
     ap (λ (r : List (List ℕ)). get_or (get_or r i []) j 0) e
     ∙ ap (λ (r : List ℕ). get_or r j 0) (row_at t n i h)
     ∙ get_or-take 3 (drop (3 * i) t) j 0 l ∙ get_or-drop (3 * i) t j 0 ∙ ap (λ (m : ℕ). get_or t m 0) f
+
+pub one_most : (answer published : List ℕ) → one answer published ≤ 1
+unfolding one
+one_most a p = most (bytes_eq a p)
+  where
+    most : (b : Bool) → cond b 1 0 ≤ 1
+    most true = omega arith
+    most false = omega arith
 
 -- one answer more
 right_next : (answer published : ℕ → List ℕ) (n : ℕ) → right answer published (n + 1) ≡ right answer published n + one (answer n) (published n)

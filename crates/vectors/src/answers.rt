@@ -1,5 +1,5 @@
 // Answers beside the published ones.
-ghost use Rattle.std.specs.Prelude.{◌≡◌, ◌+◌, ◌%◌, ◌^◌, ◌≤◌};
+ghost use Rattle.std.specs.Prelude.{◌≡◌, ◌+◌, ◌%◌, ◌^◌};
 ghost use Rattle.vectors.specs.Answers.{one};
 
 use crate::report::wrong;
@@ -38,7 +38,7 @@ impl Place<'_> {
     // 1 for an answer that is the published one; else 0, and a line that says so.
     #[tactic(auto, unfolding(crate::specs::Answers::one))]
     pub fn judged(self, answer: &[u8], published: &[u8]) -> u64
-        ensures { (result ≡ one answer.now published.now) × (result ≤ 1) }
+        ensures { result ≡ one answer.now published.now }
     {
         let right = answer == published;
         if !right {

@@ -1,5 +1,5 @@
 // A text of three blocks by a mode, in both directions. A refusal would leave the output all zeros, which is no published text.
-ghost use Rattle.std.specs.Prelude.{◌≡◌, ◌+◌, ◌≤◌, replicate};
+ghost use Rattle.std.specs.Prelude.{◌≡◌, ◌+◌, replicate};
 ghost use Rattle.cipher.specs.Cipher.{applied};
 ghost use Rattle.vectors.specs.Answers.{one};
 
@@ -18,13 +18,14 @@ fn answered(
     text: &[u8],
     published: &[u8],
 ) -> u64
-    ensures { (result ≡ one (applied mode key.0 vector.0 text.now (replicate 24 0)).output published.now) × (result ≤ 1) }
+    ensures { result ≡ one (applied mode key.0 vector.0 text.now (replicate 24 0)).output published.now }
 {
     let mut out = [0u8; 24];
     _ = apply(mode, key, vector, text, &mut out);
     place.judged(&out, published)
 }
 
+#[tactic(auto, using(crate::proofs::Counting::one_most))]
 fn run(group: &[u8], enciphering: Mode, deciphering: Mode, published: [u64; 3]) -> Tally
     ensures { result.enciphered + result.deciphered + result.wrong ≡ 2 }
 {

@@ -1,6 +1,6 @@
-use Rattle.std.proofs.Common.{◌≡◌, ◌*◌, ◌+◌, ◌/◌, ◌<◌, length, ap, ◌∙◌, ap₂, arith, rules}
+use Rattle.std.proofs.Common.{◌≡◌, ◌*◌, ◌+◌, ◌/◌, ◌<◌, ◌≤◌, length, ap, ◌∙◌, ap₂, arith, rules}
 use Rattle.vectors.specs.Answers.{right, forwards, backwards, out_of, tallied}
-use Rattle.vectors.proofs.Counting.{row_read, forwards_next, backwards_next}
+use Rattle.vectors.proofs.Counting.{row_read, one_most, forwards_next, backwards_next}
 use Rattle.vectors.proofs.blocks.run.Goals as goal
 
 pub loop-i-init : goal.loop-i-init
@@ -17,7 +17,9 @@ loop-i-preserved c =
     let cipher = row_read t _ _ i 2 (3 * i + 2) c.as_chunks.ensures.front h (omega arith) (omega arith) in
     let f = forwards_next t i in
     let b = backwards_next t i in
-    (cc, cc, search rules, search rules)
+    let one_f : c.forwards-enciphered.result ≤ 1 = rw c.forwards-enciphered.ensures (one_most _ _) in
+    let one_b : c.backwards-deciphered.result ≤ 1 = rw c.backwards-deciphered.ensures (one_most _ _) in
+    (cc, cc, omega arith, omega arith)
 
 pub returns : goal.returns
 unfolding tallied out_of
