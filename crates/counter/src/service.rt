@@ -111,6 +111,7 @@ impl Desk<'_> {
         ensures paper { paper.new ≡ bearing (sheet paper.new) paper.old }
     {
         let mut at: usize = 0;
+        // The place moves on by what stands there: nothing is counted here.
         while at < piece.len() {
             at = self.next_command(piece, at, paper);
             tell(speaks, paper);

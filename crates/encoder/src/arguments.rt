@@ -9,7 +9,7 @@ use crate::fields::put_field;
 use printout::page::Page;
 use stream::Request;
 
-// Numbers with the high byte first.
+// By its tag, as in the stream: any byte may be asked for. Numbers with the high byte first.
 #[tactic(auto, using(crate::proofs::ByForm::four_bytes), unfolding(stream::specs::Grammar::argument))]
 fn put_argument(page: &mut Page, k: u8, asked: Request, text: &[u8])
     ensures { page.new ≡ inked (field k (argument k asked text.now)) page.old }

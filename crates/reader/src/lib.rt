@@ -14,7 +14,7 @@ use names::Says;
 use stream::Request;
 use values::Source;
 
-// How far a good line has been read, and what it says.
+// How far a good line has been read, and what it says. (What it says stands beside what is asked, and no enum holds both: `specs/Line` and the laws of lines speak of each by itself.)
 #[derive(Clone, Copy)]
 pub struct Line {
     pub at: usize,

@@ -6,6 +6,7 @@ ghost use Rattle.talk.specs.Replies.{meaning, words_of};
 use names::by_tag::put_name;
 use printout::page::Page;
 
+// By the page's numbers, and no Refusal: any number may be asked for.
 #[tactic(auto, unfolding(crate::specs::Replies::meaning, crate::specs::Replies::refused))]
 fn meaning(reply: u8) -> &'static [u8]
     ensures { result.now ≡ meaning reply }
