@@ -27,7 +27,7 @@ pub extern "C" fn door_decipher(key: u64, block: u64) -> u64
     word_of(decipher(DataKey(bytes_of(key)), bytes_of(block)))
 }
 
-// The mode that a tag asks for.
+// The mode that a tag asks for: C names a mode by its command's tag, and may give any byte.
 #[tactic(auto, unfolding(crate::specs::Door::asked))]
 fn asked_by(tag: u8) -> Option<Mode>
     ensures { result ≡ asked tag }
@@ -43,6 +43,7 @@ fn asked_by(tag: u8) -> Option<Mode>
     }
 }
 
+// What C is given: a number, the page's.
 #[tactic(auto, unfolding(cipher::specs::Cipher::number))]
 fn number_of(misfit: Misfit) -> u8
     ensures { result ≡ number (Err misfit) }

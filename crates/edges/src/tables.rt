@@ -1,4 +1,5 @@
 // Tables that no command makes: an identifier in two entries, identifiers above 268435455, free entries with bytes in them.
+// (A function for each case, with its name and its words: a table of them would have as many lines.)
 use admission::{cpw, ras};
 use cipher::keys::InterchangeKey;
 use handed::entries::{ABOVE, FIVE, FREE, HIGHEST, NOBODY, entry, two};

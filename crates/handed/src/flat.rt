@@ -1,4 +1,4 @@
-// A place as bytes: the user, and of each side the key and the vector, each after its mark.
+// A place as bytes, in the order in which they are printed: the user, and of each side the key and the vector, each after its mark.
 ghost use Rattle.std.specs.Prelude.{◌≡◌, ◌+◌, length};
 
 use crate::bytes::joined;

@@ -52,8 +52,13 @@ pub fn both(side: Side) -> Holdings {
     }
 }
 
+// These eight bytes, marked missing, as each key and each vector.
+pub fn all_missing(bytes: [u8; 8]) -> Holdings {
+    both(side(missing(DataKey(bytes)), missing(Vector(bytes))))
+}
+
 pub fn nothing() -> Holdings {
-    both(side(missing(DataKey(ZEROS)), missing(Vector(ZEROS))))
+    all_missing(ZEROS)
 }
 
 // These eight bytes as each key and each vector.

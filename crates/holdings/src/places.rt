@@ -5,7 +5,9 @@ use cipher::modes::Mode;
 use exchange::data_keys::ldk;
 use handed::entries::{FIVE, entry};
 use handed::flat::{are_others_alike, flat};
-use handed::given::{all_of, both, free, missing, nothing, place, ready, seated, side};
+use handed::given::{
+    all_missing, all_of, both, free, missing, nothing, place, ready, seated, side,
+};
 use handed::published::{HIGH_BIT, HIGH_ZEROS, LOW_HIGH_BIT, LOW_ZEROS, ONES, ZEROS};
 use handed::report::Tally;
 use records::by_mode;
@@ -95,7 +97,7 @@ fn first_freed(t: &mut Tally) {
 
 // Bytes that are marked missing.
 fn leftover() -> Holdings {
-    both(side(missing(DataKey(ONES)), missing(Vector(ONES))))
+    all_missing(ONES)
 }
 
 // Place 2 is free, with bytes left in it, between taken ones.

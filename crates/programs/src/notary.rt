@@ -7,7 +7,8 @@ use printout::page::{Page, first_of};
 use session::run::run;
 use state::places::fresh_facility;
 
-// What NOTARY prints, from the start of a paper that has room for it, whatever is read; and how far the paper is filled.
+// What NOTARY prints, from the start of a paper that has room for it, whatever is read; and how far the paper is filled: a number, as
+// `proofs/Laws.determined_print_notary` has it.
 pub fn print_notary(input: &[u8], paper: &mut [u8; 327680]) -> usize
     ensures { page paper.new result ≡ printed (notary input.now) paper.old }
 {

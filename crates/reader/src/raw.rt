@@ -5,24 +5,24 @@ ghost use Rattle.reader.specs.Results.{line_as};
 
 use crate::Line;
 use names::Says;
-use values::{Origin, Source};
+use values::{Origin, Part, Source};
 use words::letters::run_end;
 use words::split::{quote_before, span, word_at};
 use words::{Class, Expected, Word, Wrong};
 
 // A plain word: an even number of hex digits.
 #[tactic(auto, unfolding(crate::specs::Raw::raw_hex))]
-fn raw_hex(line: &[u8], r: Line, start: usize, end: usize) -> Result<Line, Wrong>
-    ensures { line_as result ≡ raw_hex line.now (line_as (Ok r)) start end }
+fn raw_hex(word: Part, r: Line) -> Result<Line, Wrong>
+    ensures { line_as result ≡ raw_hex word.entry.line.now (line_as (Ok r)) word.entry.start word.entry.end }
 {
-    let digits = run_end(line, start, Class::Hex);
-    if digits < end {
+    let digits = run_end(word.line, word.start, Class::Hex);
+    if digits < word.end {
         return Err(Wrong::at(digits, Expected::RawBytes));
     }
-    if span(start, end) % 2 == 0 {
-        Ok(Line::so_far(Says::Raw, 0, end, r.bytes))
+    if span(word.start, word.end) % 2 == 0 {
+        Ok(Line::so_far(Says::Raw, 0, word.end, r.bytes))
     } else {
-        Err(Wrong::at(end, Expected::RawBytes))
+        Err(Wrong::at(word.end, Expected::RawBytes))
     }
 }
 
@@ -31,7 +31,7 @@ fn raw_turn(line: &[u8], r: Line) -> Result<Line, Wrong>
     ensures { line_as result ≡ raw_turn line.now (line_as (Ok r)) }
 {
     match word_at(line, r.at) {
-        Word::PlainWord { start, end } => raw_hex(line, r, start, end),
+        Word::PlainWord { start, end } => raw_hex(Part { line, start, end }, r),
         Word::TextWord { start, .. } => Err(Wrong::at(quote_before(start), Expected::RawBytes)),
         Word::Broken { at, expected } => Err(Wrong { at, expected }),
         Word::NoWord { at } => Ok(Line::so_far(Says::Raw, 0, at, r.bytes)),

@@ -10,6 +10,7 @@ use cipher::modes::Mode;
 use exchange::data_keys::ldk;
 use officer::rpw;
 use records::by_mode;
+use rules::answers::state_after;
 use rules::{Outcome, Refusal};
 use state::interchanges::change_key;
 use state::places::{fresh_facility, keep, nothing_held};
@@ -71,9 +72,7 @@ pub extern "C" fn speed_ldk(n: u64) -> u64 {
     for _ in 0..n {
         let met = ldk(f, 5, 100, 1, b't', [0; 8]);
         refused = refusals(refused, &met);
-        if let Ok(outcome) = met {
-            f = outcome.state;
-        }
+        f = state_after(f, &met);
     }
     refused
 }

@@ -33,7 +33,7 @@ fn put_raw(page: &mut Page, line: &[u8], start: usize)
     }
 }
 
-// The bytes that a source stands for.
+// The bytes that a source stands for. (It points into the line or into the room of the answers: two lent rooms, of which each caller has its own pair.)
 #[tactic(auto, unfolding(crate::specs::Sources::meant))]
 pub fn put_meant(page: &mut Page, source: Source, line: &[u8], kept: &[u8])
     ensures { page.new ≡ inked (meant source line.now kept.now) page.old }

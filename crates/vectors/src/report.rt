@@ -1,4 +1,5 @@
 // The lines that the program writes, by `io`: `println!` is no plainer here, with a handle through every function and a result that none can use.
+// (`handed::report` writes by the like: a crate more for four short functions would be no plainer.)
 use crate::answers::{Place, Tally};
 use io::{print_decimal, print_hex, write_all};
 

@@ -39,7 +39,7 @@ fn is_in(class: Class, letter: u8) -> bool
     }
 }
 
-// Where the run of such letters that starts here ends.
+// Where the run of such letters that starts here ends. (By number: the place is what is asked for, and a chain would count from `at`.)
 #[tactic(auto, using(crate::specs::Letters::front_steps))]
 pub fn run_end(line: &[u8], at: usize, class: Class) -> usize
     ensures { result ≡ at + front class (drop at line.now) }
