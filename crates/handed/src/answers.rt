@@ -1,8 +1,13 @@
 // What an answer gives: beside `rules::answers`, which has its number and the facility afterwards.
+ghost use Rattle.std.specs.Prelude.{◌≡◌};
+ghost use Rattle.rules.specs.Outcomes.{block_of};
+
 use rules::{Outcome, Refusal, Reply};
 
 // The bytes returned; zeros where there are none.
-pub fn block_of(met: &Result<Outcome, Refusal>) -> [u8; 8] {
+pub fn block_of(met: &Result<Outcome, Refusal>) -> [u8; 8]
+    ensures { result ≡ block_of met.now }
+{
     match met {
         Ok(
             Outcome {
@@ -11,18 +16,5 @@ pub fn block_of(met: &Result<Outcome, Refusal>) -> [u8; 8] {
             },
         ) => *block,
         _ => [0; 8],
-    }
-}
-
-// How many bytes of the output a command says that it wrote.
-pub fn written(met: &Result<Outcome, Refusal>) -> usize {
-    match met {
-        Ok(
-            Outcome {
-                reply: Reply::Output(n),
-                ..
-            },
-        ) => *n,
-        _ => 0,
     }
 }

@@ -1,9 +1,10 @@
 // Arrays of bytes put together.
-ghost use Rattle.std.specs.Prelude.{◌≡◌, ◌+◌, length};
+ghost use Rattle.std.specs.Prelude.{◌≡◌, ◌+◌, ◌++◌, length};
 
 // The one before the other.
 pub fn joined<const N: usize>(a: &[u8], b: &[u8]) -> [u8; N]
     requires { length a.now + length b.now ≡ N }
+    ensures { result ≡ a.now ++ b.now }
 {
     let mut both = [0; N];
     let (first, second) = both.split_at_mut(a.len());

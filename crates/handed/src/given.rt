@@ -1,5 +1,6 @@
 // States as they are handed in: written out, and not made by commands.
-ghost use Rattle.std.specs.Prelude.{◌<◌};
+ghost use Rattle.std.specs.Prelude.{◌≡◌, ◌<◌};
+ghost use Rattle.handed.specs.Given.{missing, both, all_missing};
 
 use crate::published::{HIGH_KEY, LOW_KEY, ZEROS};
 use cipher::keys::{DataKey, InterchangeKey, Vector};
@@ -33,19 +34,25 @@ pub const NONE: Held<InterchangeKey> = Held {
 };
 
 // Marked missing, whatever stands beside the mark.
-pub fn missing<T>(value: T) -> Held<T> {
+pub fn missing<T>(value: T) -> Held<T>
+    ensures { result ≡ missing value }
+{
     Held {
         present: false,
         value,
     }
 }
 
-pub fn side(key: Held<DataKey>, vector: Held<Vector>) -> Side {
+pub fn side(key: Held<DataKey>, vector: Held<Vector>) -> Side
+    ensures { result ≡ record { key = key; vector = vector } }
+{
     Side { key, vector }
 }
 
 // The same on both sides.
-pub fn both(side: Side) -> Holdings {
+pub fn both(side: Side) -> Holdings
+    ensures { result ≡ both side }
+{
     Holdings {
         transmit: side,
         receive: side,
@@ -53,7 +60,9 @@ pub fn both(side: Side) -> Holdings {
 }
 
 // These eight bytes, marked missing, as each key and each vector.
-pub fn all_missing(bytes: [u8; 8]) -> Holdings {
+pub fn all_missing(bytes: [u8; 8]) -> Holdings
+    ensures { result ≡ all_missing bytes }
+{
     both(side(missing(DataKey(bytes)), missing(Vector(bytes))))
 }
 

@@ -2,10 +2,12 @@
 // By `io`: `println!` is no plainer here, with a handle through every function and a result that
 // none can use, and a page of `printout` has its bytes in upper case. `vectors` prints by the same
 // few lines: a crate below both for them is no plainer.
-use crate::answers::written;
+ghost use Rattle.std.specs.Prelude.{◌≡◌};
+ghost use Rattle.handed.specs.Counted.{counted};
+
 use io::{print_decimal, print_hex, write_all};
 use rules::answers::number_of;
-use rules::{Outcome, Refusal};
+use rules::{Outcome, Refusal, Reply};
 
 #[derive(Clone, Copy, Default)]
 pub struct Tally {
@@ -47,9 +49,25 @@ impl Shown for &[u8] {
     }
 }
 
+// How many bytes of the output an answer says that it wrote.
+fn written(met: &Result<Outcome, Refusal>) -> usize {
+    match met {
+        Ok(
+            Outcome {
+                reply: Reply::Output(n),
+                ..
+            },
+        ) => *n,
+        _ => 0,
+    }
+}
+
 impl Tally {
     // No count of this program comes near 2^64.
-    fn count(&mut self, right: bool) {
+    #[tactic(auto, unfolding(crate::specs::Counted::counted))]
+    fn count(&mut self, right: bool)
+        ensures { self.new ≡ counted right self.old }
+    {
         self.cases = self.cases.wrapping_add(1);
         if !right {
             text(b", WRONG");
@@ -58,7 +76,9 @@ impl Tally {
         text(b"\n");
     }
 
-    pub fn case<T: Shown>(&mut self, command: &[u8], words: &[u8], expected: T, met: T) {
+    pub fn case<T: Shown>(&mut self, command: &[u8], words: &[u8], expected: T, met: T)
+        ensures { self.new ≡ counted (T.eq met expected) self.old }
+    {
         text(command);
         text(b", ");
         text(words);
