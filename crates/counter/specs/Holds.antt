@@ -11,8 +11,8 @@ use Rattle.reader.specs.declared.Line.{Line}
 use Rattle.reader.specs.Results.{line_as}
 use Rattle.clerk.specs.Replies.{reply}
 use Rattle.counter.specs.declared.kept.Books.{Books as Ledger}
-use Rattle.counter.specs.declared.service.Desk.{Desk}
-use Rattle.counter.specs.declared.input.Got.{Got}
+use Rattle.counter.specs.declared.service.Sitting.{Sitting}
+use Rattle.counter.specs.declared.input.Coming.{Coming}
 use Rattle.counter.specs.Input.{Partly}
 use Rattle.counter.specs.Kept.{Books, books, next, booked}
 use Rattle.counter.specs.Service.{Turned, turned, turn_at, Carried, carried, carried_out}
@@ -35,10 +35,10 @@ with_books b l = record { kept = bearing b.bytes l.kept; ends = record l.ends { 
 abbrev pub at_desk : Facility → (table out : Bytes) → Ledger → Carried
 at_desk f table out b = carried (over f table) out (books_as b)
 
-abbrev pub desk_as : Desk → Carried
+abbrev pub desk_as : Sitting → Carried
 desk_as d = at_desk d.state d.table.now d.out.now d.books
 
-abbrev pub left_as : Carried → Desk → Desk
+abbrev pub left_as : Carried → Sitting → Sitting
 left_as c d =
     record {
       state = c.world.facility;
@@ -59,7 +59,7 @@ abbrev pub told_with : ℕ → Bytes → Carried → List ℕ
 told_with tag v c = reply (next c.answers.count) (answered tag (answer_to c.world tag v c.output).answered)
 
 -- where a command's turn has come to: the desk, the paper, and where the piece goes on
-abbrev pub turned_as : Desk → Page → ℕ → Turned
+abbrev pub turned_as : Sitting → Page → ℕ → Turned
 turned_as d paper at = let c = desk_as d in turned c.world c.output c.answers (sheet paper) at
 
 abbrev pub turn_with : Bytes → ℕ → Carried → Bytes → Turned
@@ -69,7 +69,7 @@ abbrev pub carried_with : Bytes → Carried → Carried
 carried_with s c = carried_out s c.world c.output c.answers
 
 -- a line served: what it says, its bytes on the piece, and the desk
-abbrev pub served_as : Result Line Wrong → Page → Desk → Served
+abbrev pub served_as : Result Line Wrong → Page → Sitting → Served
 served_as said piece d = served (line_as said) (text piece) (desk_as d)
 
 abbrev pub served_with : Bool → List ℕ → ℕ → Carried → Served
@@ -77,8 +77,8 @@ served_with longer l room c = served_line longer l room c.world c.output c.answe
 
 -- ---- a line as far as it has come
 
-abbrev pub partly : Got → Partly
+abbrev pub partly : Coming → Partly
 partly g = record { letters = sheet g.letters; longer = g.longer; complete = g.complete }
 
-abbrev pub coming : Partly → Got → Got
+abbrev pub coming : Partly → Coming → Coming
 coming p g = record { letters = bearing p.letters g.letters; longer = p.longer; complete = p.complete }

@@ -5,7 +5,7 @@ use Prim.Native.Char.{code}
 use Rattle.ground.specs.Search.{by_test}
 use Rattle.printout.specs.Page.{Page, page, letter, entered, then}
 use Rattle.clerk.specs.Filled.{put-over}
-use Rattle.counter.specs.declared.input.Got.{Got}
+use Rattle.counter.specs.declared.input.Coming.{Coming}
 use Rattle.counter.specs.Holds.{partly}
 use Rattle.counter.specs.Input.{Partly, has_room, one_more, no_feed, line_in}
 
@@ -89,7 +89,7 @@ one_more_lem buffer p (l, f, e) x q g =
         ∙ ap (λ (r : Page). record { letters = r; longer = ltb (length buffer) (length (l ++ (x ∷ []))); complete = false }) (sym (then l (x ∷ []) (page buffer 0)))
 
 -- what stands in the buffer then, for the line to be heard: as many letters as found room, and whether there are more
-pub letters_there : (buffer l : List ℕ) (got : Got) → partly got ≡ line_in buffer got.complete l
+pub letters_there : (buffer l : List ℕ) (got : Coming) → partly got ≡ line_in buffer got.complete l
     → (take got.letters.filled got.letters.letters.now ≡ take (length buffer) l) × (got.longer ≡ ltb (length buffer) (length l))
 letters_there buffer l got e =
     (put-over buffer l got.letters.letters.now got.letters.filled (ap (λ (p : Partly). p.letters) e), ap (λ (p : Partly). p.longer) e)

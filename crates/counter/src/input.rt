@@ -10,16 +10,34 @@ use printout::page::Page;
 use reader::Line;
 use words::Wrong;
 
-// A line as far as it has come: its letters, whether it has more than found room, and whether its line feed has come.
+// What has come of a line: how many letters found room, whether it has more, and whether its line feed has come.
 // (Two marks, and no enum for how a line ended: it may have both, one or none; and `specs/Input.one_more` speaks of any two.)
+#[derive(Clone, Copy)]
+pub struct Got {
+    pub letters: usize,
+    pub longer: bool,
+    pub complete: bool,
+}
+
+// A line as far as it has come, with its letters where it is lent room for them.
 #[derive(Drop)]
-pub struct Got<'a> {
+pub struct Coming<'a> {
     pub letters: Page<'a>,
     pub longer: bool,
     pub complete: bool,
 }
 
-impl Got<'_> {
+impl Coming<'_> {
+    pub fn got(&self) -> Got
+        ensures { result ≡ record { letters = self.now.letters.filled; longer = self.now.longer; complete = self.now.complete } }
+    {
+        Got {
+            letters: self.letters.filled,
+            longer: self.longer,
+            complete: self.complete,
+        }
+    }
+
     // One letter more: the line feed, or a letter of the line.
     #[tactic(auto, unfolding(crate::specs::Input::one_more, printout::specs::Inked::inked, printout::specs::Page::entered))]
     pub fn take_letter(&mut self, letter: u8)
@@ -46,11 +64,11 @@ fn next_letter() -> Option<u8> {
 
 // The next line, without its line feed; not complete where the input has ended.
 // (What the input holds no contract can say: this one says that some line stands there.)
-pub fn next_line(line: &mut [u8]) -> Got<'_>
+pub fn next_line(line: &mut [u8]) -> Coming<'_>
     ensures line { (l : List ℕ) × (no_feed l ≡ true) × (partly result ≡ line_in line.old result.complete l) }
     ensures lent { result.letters.letters.ghost_name ≡ line.entry.ghost_name }
 {
-    let mut got = Got {
+    let mut got = Coming {
         letters: Page::new(line),
         longer: false,
         complete: false,

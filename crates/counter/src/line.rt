@@ -3,14 +3,14 @@ ghost use Rattle.std.specs.Prelude.{◌≡◌, length};
 ghost use Rattle.printout.specs.Inked.{sheet, bearing};
 ghost use Rattle.counter.specs.Holds.{desk_as, left_as, served_as, served_with};
 
-use crate::service::{Desk, text_of};
+use crate::service::{Sitting, text_of};
 use clerk::bytes::put_spoken;
 use clerk::heard::hear;
 use printout::page::Page;
 use reader::Line;
 use words::Wrong;
 
-impl Desk<'_> {
+impl Sitting<'_> {
     // `line` has the letters that found room, and `longer` says whether there are more. Its bytes fill the piece from its start;
     // a line that is bad, or for the desk, has none, and nothing is carried out.
     #[tactic(auto, using(crate::proofs::Pieces::put_over), unfolding(crate::specs::Line::served_line, printout::specs::Inked::inked))]
@@ -26,6 +26,7 @@ impl Desk<'_> {
         ensures desk { self.new ≡ left_as (desk_as self.new) self.old }
         ensures piece { piece.new ≡ bearing (sheet piece.new) piece.old }
         ensures paper { paper.new ≡ bearing (sheet paper.new) paper.old }
+        ensures room { (length piece.new.letters.now ≡ length piece.old.letters.now) × (length paper.new.letters.now ≡ length paper.old.letters.now) }
     {
         let answers = self.books.answers();
         let said = hear(line, longer, answers);

@@ -1,5 +1,5 @@
 // A piece of stream carried out, at the desk with its answers in words.
-ghost use Rattle.std.specs.Prelude.{◌≡◌, ◌++◌};
+ghost use Rattle.std.specs.Prelude.{◌≡◌, ◌++◌, length};
 ghost use Rattle.printout.specs.Inked.{sheet, bearing, inked};
 ghost use Rattle.printout.specs.Lines.{line};
 ghost use Rattle.talk.specs.Replies.{words_of};
@@ -18,13 +18,34 @@ use state::Facility;
 use stream::Field;
 use stream::fields::{field_at, value_at};
 
+// Where a desk stands: its facility, how many answers it has given, and how far their bytes are kept.
+#[derive(Clone, Copy)]
+pub struct Desk {
+    pub state: Facility,
+    pub answers: usize,
+    pub used: usize,
+}
+
 // What lasts from line to line: the facility, the password table and the output that it is lent, and its answers.
 #[derive(Drop)]
-pub struct Desk<'a> {
+pub struct Sitting<'a> {
     pub state: Facility,
     pub table: &'a mut [u8],
     pub out: &'a mut [u8],
     pub books: Books<'a>,
+}
+
+impl Sitting<'_> {
+    // Where its desk stands now.
+    pub fn desk(&self) -> Desk
+        ensures { result ≡ record { state = self.now.state; answers = self.now.books.count; used = self.now.books.kept.filled } }
+    {
+        Desk {
+            state: self.state,
+            answers: self.books.count,
+            used: self.books.kept.filled,
+        }
+    }
 }
 
 // What stands on a page.
@@ -73,7 +94,7 @@ fn serve(
     state_after(state, &answer)
 }
 
-impl Desk<'_> {
+impl Sitting<'_> {
     // The command that stands at a place of the piece, with its answer from the start of the paper; and where the piece goes on.
     // A field that runs past the piece's end is 17, and the rest is not read.
     #[tactic(auto, using(stream::specs::Fields::value_whole), unfolding(crate::specs::Service::turn_at, crate::specs::Kept::booked, clerk::specs::Replies::reply, printout::specs::Inked::inked))]
@@ -81,6 +102,7 @@ impl Desk<'_> {
         ensures turn { turned_as self.new paper.new result ≡ turn_with piece.now at (desk_as self.old) paper.old.letters.now }
         ensures desk { self.new ≡ left_as (desk_as self.new) self.old }
         ensures paper { paper.new ≡ bearing (sheet paper.new) paper.old }
+        ensures room { length paper.new.letters.now ≡ length paper.old.letters.now }
     {
         paper.filled = 0;
         match field_at(piece, at) {
@@ -109,6 +131,7 @@ impl Desk<'_> {
     pub fn carry_out(&mut self, speaks: bool, piece: &[u8], paper: &mut Page)
         ensures desk { self.new ≡ left_as (carried_with piece.now (desk_as self.old)) self.old }
         ensures paper { paper.new ≡ bearing (sheet paper.new) paper.old }
+        ensures room { length paper.new.letters.now ≡ length paper.old.letters.now }
     {
         let mut at: usize = 0;
         // The place moves on by what stands there: nothing is counted here.

@@ -5,7 +5,7 @@
 use clerk::told::put_told;
 use counter::input::{is_last, next_line};
 use counter::kept::{Books, room};
-use counter::service::{Desk, text_of};
+use counter::service::{Sitting, text_of};
 use io::write_all;
 use printout::page::Page;
 use reader::Line;
@@ -49,12 +49,13 @@ fn tell(number: usize, said: Result<Line, Wrong>, state: Facility, paper: &mut P
 }
 
 // The lines one after the other, each answered before the next is read.
-fn serve(asks: bool, desk: &mut Desk, line: &mut [u8], piece: &mut Page, paper: &mut Page) {
+fn serve(asks: bool, sitting: &mut Sitting, line: &mut [u8], piece: &mut Page, paper: &mut Page) {
     for number in 1..=1000000 {
         ask(asks);
-        let got = next_line(line);
-        let said = desk.serve_line(true, text_of(&got.letters), got.longer, piece, paper);
-        tell(number, said, desk.state, paper);
+        let coming = next_line(line);
+        let got = coming.got();
+        let said = sitting.serve_line(true, text_of(&coming.letters), got.longer, piece, paper);
+        tell(number, said, sitting.desk().state, paper);
         if is_last(got.complete, said) {
             part(asks, got.complete);
             return;
@@ -73,7 +74,7 @@ fn main(rt: HostRuntime) {
     let mut paper = [0u8; 70000];
     let asks = at_terminal(&rt);
     greet(asks);
-    let mut desk = Desk {
+    let mut sitting = Sitting {
         state: fresh_facility(),
         table: &mut table,
         out: &mut out,
@@ -81,7 +82,7 @@ fn main(rt: HostRuntime) {
     };
     serve(
         asks,
-        &mut desk,
+        &mut sitting,
         &mut line,
         &mut Page::new(&mut piece),
         &mut Page::new(&mut paper),

@@ -5,7 +5,7 @@
 use clerk::wrong::put_wrong;
 use counter::input::{is_last, next_line};
 use counter::kept::{Books, room};
-use counter::service::{Desk, text_of};
+use counter::service::{Sitting, text_of};
 use io::write_all;
 use printout::page::Page;
 use state::places::fresh_facility;
@@ -18,10 +18,11 @@ fn complain(number: usize, wrong: Wrong, paper: &mut Page) {
 }
 
 // The lines one after the other, up to the first bad one: the bytes of each written, and carried out, so that `$n` means what it means at the desk.
-fn write_lines(desk: &mut Desk, line: &mut [u8], piece: &mut Page, paper: &mut Page) {
+fn write_lines(sitting: &mut Sitting, line: &mut [u8], piece: &mut Page, paper: &mut Page) {
     for number in 1..=usize::MAX {
-        let got = next_line(line);
-        let said = desk.serve_line(false, text_of(&got.letters), got.longer, piece, paper);
+        let coming = next_line(line);
+        let got = coming.got();
+        let said = sitting.serve_line(false, text_of(&coming.letters), got.longer, piece, paper);
         if let Err(wrong) = said {
             complain(number, wrong, paper);
             return;
@@ -41,14 +42,14 @@ fn main() {
     let mut ends = [0usize; 4097];
     let mut piece = [0u8; 65538];
     let mut paper = [0u8; 70000];
-    let mut desk = Desk {
+    let mut sitting = Sitting {
         state: fresh_facility(),
         table: &mut table,
         out: &mut out,
         books: Books::new(&mut kept, &mut ends),
     };
     write_lines(
-        &mut desk,
+        &mut sitting,
         &mut line,
         &mut Page::new(&mut piece),
         &mut Page::new(&mut paper),

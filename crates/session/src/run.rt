@@ -3,7 +3,8 @@ ghost use Rattle.std.specs.Prelude.{◌≡◌, ◌+◌, ◌<◌, ◌^◌};
 ghost use Rattle.rules.specs.World.{over};
 ghost use Rattle.rules.specs.Outcomes.{answer_of, block_of, left};
 ghost use Rattle.printout.specs.Inked.{sheet, bearing, inked};
-ghost use Rattle.session.specs.Run.{answer_to, answered, shown_of, line_of, reached, turn_of, leaves, printed_run};
+ghost use Rattle.printout.specs.Lines.{line};
+ghost use Rattle.session.specs.Run.{answer_to, shown_of, reached, turn_of, leaves, printed_run};
 
 use facility::perform;
 use printout::lines::put_line;
@@ -46,18 +47,12 @@ pub fn shown<'a>(answer: &'a Result<Outcome, Refusal>, out: &'a [u8]) -> &'a [u8
     }
 }
 
-// The line of an answer.
-pub fn put_answer(
-    page: &mut Page,
-    ordinal: usize,
-    tag: u8,
-    answer: &Result<Outcome, Refusal>,
-    out: &[u8],
-)
-    ensures { page.new ≡ inked (line_of ordinal (answered tag (record { answer = answer_of answer.now; block = block_of answer.now; output = out.now }))) page.old }
+// The line of an answer: any number and any bytes, so that no answer is left out.
+// (`specs/Run.line_of` says which number and which bytes are an answer's; `number_of` and `shown` tell them.)
+pub fn put_answer(page: &mut Page, ordinal: usize, tag: u8, number: u8, bytes: &[u8])
+    ensures { page.new ≡ inked (line ordinal tag number bytes.now) page.old }
 {
-    let number = number_of(answer);
-    put_line(page, ordinal, tag, number, shown(answer, out));
+    put_line(page, ordinal, tag, number, bytes);
 }
 
 // How far a run has come: the facility, and the next line's ordinal.
@@ -84,14 +79,20 @@ fn turn(
     match next {
         Field::Whole { tag, .. } => {
             let answer = answer_to(d.state, table, out, tag, value);
-            put_answer(page, d.ordinal, tag, &answer, out);
+            put_answer(
+                page,
+                d.ordinal,
+                tag,
+                number_of(&answer),
+                shown(&answer, out),
+            );
             Going {
                 state: state_after(d.state, &answer),
                 ordinal: d.ordinal + 1,
             }
         }
         Field::Cut { tag } => {
-            put_answer(page, d.ordinal, tag, &Err(Refusal::Cut), out);
+            put_answer(page, d.ordinal, tag, u8::from(Refusal::Cut), &[]);
             d
         }
         Field::End => d,

@@ -1,11 +1,11 @@
 use Rattle.std.proofs.Common.{◌≤◌, length, refl, sym, ap, ◌∙◌, arith, rules}
 use Rattle.counter.specs.Service.{Carried, carried_out, step, further, finished}
 use Rattle.counter.specs.Holds.{left_as}
-use Rattle.counter.proofs.service.Desk.carry_out.Goals as goal
+use Rattle.counter.proofs.service.Sitting.carry_out.Goals as goal
 
 pub loop-at-init : goal.loop-at-init
 unfolding carried_out
-loop-at-init c = record { rest = refl; desk = refl; paper = refl }
+loop-at-init c = record { rest = refl; desk = refl; paper = refl; room = refl }
 
 pub loop-at-smaller : goal.loop-at-smaller
 loop-at-smaller c =
@@ -18,6 +18,7 @@ loop-at-preserved c =
       rest = step _ _ _ _ _ _ c.loop-at-test.true _ c.next_command-at.ensures.turn ∙ c.loop-at.invariant.rest;
       desk = search rules;
       paper = search rules;
+      room = c.next_command-at.ensures.room ∙ c.loop-at.invariant.room;
     }
 
 pub returns-clause-desk : goal.returns-clause-desk
