@@ -1,8 +1,9 @@
 -- Laws of a word more, by an index or a count. They stood in specs/; the code is proved without them.
-use Rattle.std.specs.Prelude.{◌≡◌, refl, List, ℕ, zero, suc, ◌+◌, ◌-◌, ◌≤◌, ◌<◌, length, get_or, drop}
-use Rattle.std.proofs.Common.{arith, add-one, drop_of_length-le, drop-cons}
+use Rattle.std.specs.Prelude.{◌≡◌, refl, Bool, false, cond, List, ℕ, zero, suc, ◌+◌, ◌-◌, ◌≤◌, ◌<◌, length, get_or, drop}
+use Rattle.std.proofs.Common.{ap, arith, add-one, drop_of_length-le, drop-cons}
 use Rattle.reader.specs.Line.{Line}
-use Rattle.reader.specs.Command.{read_word, read_words}
+use Rattle.words.specs.Split.{word_at}
+use Rattle.reader.specs.Command.{read_word, read_words, nothing_else, ended_line}
 use Rattle.reader.specs.Raw.{raw_turn, raw_turns}
 
 -- ---- one word more, for a loop
@@ -14,6 +15,13 @@ words_step l kept ends r ks i h = rw (add-one, drop-cons ks i 0 h)
 pub words_end : (l kept ends : List ℕ) (r : Line) (ks : List ℕ) (i : ℕ) → length ks ≤ i → read_words l kept ends r (drop i ks) ≡ r
 unfolding read_words
 words_end l kept ends r ks i h = rw drop_of_length-le
+
+-- ---- a line that is wrong already
+
+-- it stays as it is, whatever stands beside its mark
+pub wrong_stays : (l : List ℕ) (r : Line) → r.fits ≡ false → ended_line l r ≡ r
+unfolding ended_line
+wrong_stays l r h = ap (λ (fits : Bool). cond fits (nothing_else r (word_at l r.at)) r) h
 
 -- ---- of raw bytes
 
