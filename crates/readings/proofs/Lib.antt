@@ -5,3 +5,4 @@ pub mod Shown
 pub mod Spelled
 pub mod Once
 pub mod Seventeen
+pub mod Kept

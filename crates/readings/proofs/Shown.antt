@@ -18,7 +18,7 @@ use Rattle.stream.specs.Fields.{Bytes, field}
 use Rattle.stream.proofs.FieldLaws.{field-length}
 use Rattle.stream.specs.Commands.{Row as Form, commands, arguments_in, arguments_of, blank, decoded}
 use Rattle.stream.specs.Grammar.{argument, spelled, Spells}
-use Rattle.stream.proofs.Exact.{fits_spells}
+use Rattle.stream.proofs.Exact.{fits_spells, spells_fits}
 use Rattle.rules.specs.Commands.{UserCommand, RAS, LAU, CPW, GDK, LDK, GIV, LIV, EIV, RDK, mode, DAUT, Command, by, EIK, IPW, RPW, logout, refusals, refused, effect, tests}
 use Rattle.state.specs.declared.Side.{Side}
 use Rattle.rules.specs.World.{World, Own, own, shut_for}
@@ -184,17 +184,16 @@ unfolding answer_to arguments_of
 shows_no_more w t v out bytes =
     by_reading (decoded t v) refl
   where
-    spelt : (r : Reading) → Spells t v r.asked (drop r.text v) → length (shown_in (answer_to w t v out).answered) ≤ length v
-    spelt r h =
-        let a = r.asked in
-        let d = drop r.text v in
+    spelt : (a : Request) (d : Bytes) → Spells t v a d → length (shown_in (answer_to w t v out).answered) ≤ length v
+    spelt a d h =
         let c = spelled_step w t v out a d h in
         let known = ap arguments_of h.tagged ∙ h.known in
         let f = fitted a.tag (length d) h.arguments c.0 commands (rows a d) (rows_fit a d) known c.1 in
         let size : length v ≡ length (spelled h.arguments a d) = ap length h.value in
-        let data-size : length d ≡ length v - r.text = length-drop r.text v in
+        let read = spells_fits t v a d h in
+        let data-size : length d ≡ length v - read.0.text = ap length (sym read.3) ∙ length-drop read.0.text v in
         rw c.2 (shows w c.0 out (length v) (omega (arith, f.0, all_no_shorter h.arguments a d h.eight)) (omega (arith, f.1)))
 
     by_reading : (o : Option Reading) → decoded t v ≡ o → length (shown_in (answer_to w t v out).answered) ≤ length v
     by_reading None e = rw e (omega arith)
-    by_reading (Some r) e = spelt r (fits_spells t v bytes r e)
+    by_reading (Some r) e = spelt r.asked (drop r.text v) (fits_spells t v bytes r e)

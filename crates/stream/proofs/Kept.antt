@@ -1,6 +1,7 @@
 -- A command's value, read with a mark for what fits and 0 for an argument that it lacks: it says what it says today.
-use Rattle.std.specs.Prelude.{◌≡◌, Bool, true, false, cond, List, [], ◌∷◌, ℕ, zero, suc, ◌-◌, ◌≤◌, ◌<◌, eqb, length, replicate, Option, Some, None, option_and_then}
-use Rattle.std.proofs.Common.{refl, ap, ◌∙◌, ne_eqb, le_of_suc-le-suc, not-suc-le-zero, arith}
+use Rattle.std.specs.Prelude.{◌≡◌, Bool, true, false, cond, List, [], ◌∷◌, ℕ, zero, suc, ◌+◌, ◌-◌, ◌≤◌, ◌<◌, eqb, length, get_or, drop, replicate, Option, Some, None, option_and_then}
+use Rattle.std.proofs.Common.{refl, sym, ap, ◌∙◌, add-one, drop_of_length-le, drop-cons, eqb-true, eq-eqb, ne_eqb, le_of_suc-le-suc, not-suc-le-zero, arith}
+use Rattle.std.proofs.lemmas.Bool.{false≢true}
 use Rattle.ground.specs.Search.{by_test}
 use Rattle.ground.specs.Lists.{padded}
 use Rattle.stream.specs.declared.Field.{Field}
@@ -66,11 +67,29 @@ pub form_given : (t : ℕ) (o : Option (List ℕ)) → o ≡ arguments_of t → 
 unfolding form_of
 form_given t o e = ap form_for e
 
+-- each of the arguments in turn
+pub read_step : (v : Bytes) (r : Tried) (ks : List ℕ) (i : ℕ) → i < length ks
+    → read_all_before v r (drop i ks) ≡ read_all_before v (read_one v r (get_or ks i 0)) (drop (i + 1) ks)
+unfolding read_all_before
+read_step v r ks i h = rw (add-one, drop-cons ks i 0 h)
+
+pub read_end : (v : Bytes) (r : Tried) (ks : List ℕ) (i : ℕ) → length ks ≤ i → read_all_before v r (drop i ks) ≡ r
+unfolding read_all_before
+read_end v r ks i h = rw drop_of_length-le
+
+module _ (v : Bytes) (r : Tried) (k : ℕ) (low : 0x80 < k) (fit : r.fits ≡ true) where
+  pub read-field : read_one v r k ≡ took_before v r k (field_at v r.at)
+  unfolding read_one
+  read-field = rw (ne_eqb k 0 (λ e. omega arith), fit)
+
 -- no value that failed fits again
 pub stuck : (v : Bytes) (ks : List ℕ) (r : Tried) → r.fits ≡ false → (read_all_before v r ks).fits ≡ false
 unfolding read_all_before read_one
 stuck v [] r h = h
 stuck v (k ∷ ks) r h = stuck v ks (read_one v r k) (by_test (eqb k 0) (λ e. rw (e, h)) (λ e. rw (e, h)))
+
+pub fit_before : (v : Bytes) (ks : List ℕ) (r : Tried) → (read_all_before v r ks).fits ≡ true → r.fits ≡ true
+fit_before v ks r h = by_test r.fits (λ e. e) (λ e. absurd (false≢true (sym (stuck v ks r e) ∙ h)))
 
 -- zeros are passed over
 pub read-padded : (v : Bytes) (r : Tried) (n : ℕ) (ks : List ℕ) → length ks ≤ n
@@ -80,6 +99,31 @@ read-padded v r zero [] h = refl
 read-padded v r zero (k ∷ ks) h = absurd (not-suc-le-zero h)
 read-padded v r (suc n) [] h = read-padded v r n [] (omega arith)
 read-padded v r (suc n) (k ∷ ks) h = read-padded v (read_one v r k) n ks (le_of_suc-le-suc h)
+
+-- what fits has been read to its end
+pub ended_at : (t n : ℕ) (r : Tried) → (ended_before t n r).fits ≡ true → r.at ≡ n
+unfolding ended_before begun_before
+ended_at t n r h = by_test (eqb r.at n) (λ e. eqb-true r.at n e) (λ e. absurd (false≢true (rw e at h)))
+
+pub ended_is : (t n : ℕ) (r : Tried) → r.at ≡ n → ended_before t n r ≡ r
+unfolding ended_before
+ended_is t n r e = rw (eq-eqb r.at n e)
+
+-- a tag of no command has no value
+module _ (t : ℕ) (v : Bytes) where
+  pub decoded_none : arguments_of t ≡ None → decoded t v ≡ None
+  unfolding decoded
+  decoded_none e = rw e refl
+
+  pub decoded_none_before : arguments_of t ≡ None → (decoded_before t v).fits ≡ false
+  unfolding decoded_before form_of ended_before begun_before
+  decoded_none_before e =
+      let nothing : List ℕ = replicate 5 0 in
+      let failed = begun_before false t in
+      rw e
+      (by_test (eqb (read_all_before v failed nothing).at (length v))
+      (λ b. rw b (stuck v nothing failed refl))
+      (λ b. rw b))
 
 -- ---- what they gave is what today's give
 
@@ -133,3 +177,11 @@ unfolding decoded_before form_of decoded
 as_before t v =
     let read = option_and_then (read_all v (begun t)) (arguments_of t) in
     ap (ended_before t (length v)) (same_form t v (arguments_of t) refl) ∙ same_end t v (length v) read
+
+-- so what did not fit is nothing today
+pub unfit_none : (t : ℕ) (v : Bytes) → (decoded_before t v).fits ≡ false → decoded t v ≡ None
+unfit_none t v h = go (decoded t v) (ap (λ (x : Tried). x.fits) (sym (as_before t v)) ∙ h)
+  where
+    go : (o : Option Reading) → (tried t o).fits ≡ false → o ≡ None
+    go None f = refl
+    go (Some r) f = absurd (false≢true (sym f))
