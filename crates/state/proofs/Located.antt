@@ -1,13 +1,14 @@
 -- Theorems of an index that a search of the places tells, and of finding none, in the definition's words.
 use Rattle.std.specs.Prelude.{◌≡◌, refl, Bool, true, false, not, is_none, option_map, Option, None, Some, List, [], ◌∷◌, ℕ, zero, suc, ◌+◌, ◌≤◌, ◌<◌, ◌≢◌, eqb, ltb, length, position, get_or, set}
 use Rattle.std.proofs.Common.{sym, ap, ◌∙◌, lit≤, eqb-true, eq-eqb, ne_eqb, ltb-false, not-suc-le-zero, arith}
-use Rattle.std.proofs.lemmas.Bool.{false≢true, eqb-false}
+use Rattle.std.proofs.lemmas.Bool.{false≢true, eqb-false, not-false, not-true}
+use Rattle.std.proofs.lemmas.List.Quantifiers.{position-Some}
 use Rattle.ground.specs.Search.{by_test}
 use Rattle.state.specs.declared.Place.{Place}
 use Rattle.state.specs.declared.Holdings.{Holdings}
 use Rattle.state.specs.State.{has, find, put, all_taken, admit, named, spare, seat, vacant, give, leave, shut_to}
 use Rattle.state.specs.Located.{Before, Located, Free}
-use Rattle.state.proofs.Positions.{stored, free, position_cons, put_is, find_is, admit_is, all_taken_is}
+use Rattle.state.proofs.Positions.{stored, free, position_cons, position_none, put_is, find_is, admit_is, all_taken_is}
 
 -- what the code's two tests of a place tell
 pub has_yes : (u : ℕ) (p : Place) → p.taken ≡ true → p.user ≡ u → has u p ≡ true
@@ -70,6 +71,26 @@ pub admit_at : (x : Place) (ps : List Place) (i : ℕ) → i < length ps → (ge
 admit_at x ps i l e b =
     let q = position_at free ps i l (ap not e) (λ j h. ap not (b j h)) in
     (admit_is x ps ∙ ap (stored x ps) q, all_taken_is ps ∙ ap is_none q)
+
+-- ---- what std's `position`, by which the code searches, tells of the index
+
+-- the first place of u
+pub located_position : (u : ℕ) (ps : List Place) → length ps ≡ 16 → Located u ps (position (has u) ps)
+located_position u ps l = by (position (has u) ps) refl
+  where
+    by : (o : Option ℕ) → position (has u) ps ≡ o → Located u ps o
+    by None e = (l, λ j h. position_none (has u) ps spare e j (omega arith))
+    by (Some i) e = let q = position-Some (has u) ps i spare e in (omega arith, q.1, q.2)
+
+-- the first free place
+pub free_position : (ps : List Place) → length ps ≡ 16 → Free ps (position free ps)
+free_position ps l = by (position free ps) refl
+  where
+    by : (o : Option ℕ) → position free ps ≡ o → Free ps o
+    by None e = (l, λ j h. not-false _ (position_none free ps spare e j (omega arith)))
+    by (Some i) e =
+        let q = position-Some free ps i spare e in
+        (omega arith, l, not-true _ q.1, λ j h. not-false _ (q.2 j h))
 
 -- ---- what a search found, in the definition's words
 

@@ -4,6 +4,7 @@ use Rattle.std.specs.List.{position_or_len}
 use Rattle.std.specs.Option.{option_or}
 use Rattle.std.proofs.Common.{sym, ap, ltb-false, ltb-true, lt-ltb, le-ltb, arith}
 use Rattle.std.proofs.lemmas.Bool.{false≢true}
+use Rattle.std.proofs.lemmas.List.Sums.{fails_before_first}
 use Rattle.ground.specs.Search.{by_test}
 use Rattle.state.specs.declared.Place.{Place}
 use Rattle.state.specs.declared.Holdings.{Holdings}
@@ -28,6 +29,14 @@ position_cons f x xs = by (f x) (position_or_len f xs) (length xs)
     by false m n = by_test (ltb m n)
         (λ e. let h : m < n = ltb-true m n e in rw (lt-ltb (1 + m) (suc n) (omega arith), e) (ap Some (omega arith)))
         (λ e. let h : n ≤ m = ltb-false m n e in rw (le-ltb (1 + m) (suc n) (omega arith), e))
+
+-- where nothing is found, the test fails at each index
+pub position_none : {X : Type 0} (f : X → Bool) (xs : List X) (d : X) → position f xs ≡ None
+    → (j : ℕ) → j < length xs → f (get_or xs j d) ≡ false
+position_none f xs d e j h =
+    by_test (ltb (position_or_len f xs) (length xs))
+    (λ t. let n : Some (position_or_len f xs) ≡ None = rw t at e in absurd (cc))
+    (λ t. let l = ltb-false (position_or_len f xs) (length xs) t in fails_before_first f xs j d (omega arith))
 
 stored_cons : (b : Bool) (x p : Place) (ps : List Place) (o : Option ℕ)
     → stored x (p ∷ ps) (cond b (Some 0) (option_map suc o)) ≡ cond b (x ∷ ps) (p ∷ stored x ps o)

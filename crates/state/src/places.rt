@@ -1,6 +1,7 @@
 // The sixteen places.
 ghost use Rattle.std.specs.Prelude.{◌≡◌, not, position};
 ghost use Rattle.state.specs.State.{bare, vacant, seat, has, find, shut_to, give, leave, fresh, with_places};
+ghost use Rattle.state.specs.Located.{Located, Free};
 
 use crate::interchanges::NO_KEY;
 use crate::{Facility, Held, Holdings, Place, Side};
@@ -59,14 +60,16 @@ pub fn fresh_facility() -> Facility
 
 // The first place of the user.
 fn place_of(places: [Place; 16], user: u32) -> Option<usize>
-    ensures { result ≡ position (has user) places }
+    ensures found { result ≡ position (has user) places }
+    ensures located { Located user places result }
 {
     places.iter().position(|p| p.taken && p.user == user)
 }
 
 // The first free place.
 fn free_place(places: [Place; 16]) -> Option<usize>
-    ensures { result ≡ position (λ p. not p.taken) places }
+    ensures found { result ≡ position (λ p. not p.taken) places }
+    ensures located { Free places result }
 {
     places.iter().position(|p| !p.taken)
 }

@@ -5,14 +5,15 @@ use Rattle.std.proofs.Common.{sym, ap, ap₂, ◌∙◌, append_assoc, append-ni
 use Rattle.std.proofs.Math.Numerals.{add-two, add-three, add-four, add_five, add_six, add_seven}
 use Rattle.std.proofs.Math.Seq.{take-length, drop-length}
 use Rattle.std.proofs.lemmas.Bool.{eqb-false}
+use Rattle.std.proofs.lemmas.List.Quantifiers.{position-Some}
 use borrow.Rule.Slice.PartMut.{mid_of, put_mid, mid_len, Post-is}
 use Rattle.ground.specs.Rows.{row, digits, digits-length}
 use Rattle.ground.specs.Search.{by_test}
 use Rattle.state.specs.State.{Bytes}
-use Rattle.state.proofs.Positions.{position_cons}
-use Rattle.table.specs.Entries.{free_id, id_of, id_at, is_of, entry_in, enter_in, entry_of, enter, enrol_in}
+use Rattle.state.proofs.Positions.{position_cons, position_none}
+use Rattle.table.specs.Entries.{free_id, id_of, id_at, entries, is_of, entry_in, enter_in, entry_of, enter, enrol_in}
 use Rattle.table.specs.Located.{NotBefore, Entered}
-use Rattle.table.proofs.Positions.{shift0, id_first, kept_first, found, found_in, changed, kept, entered_in, taken, taken_in}
+use Rattle.table.proofs.Positions.{shift0, entry_is_at, id_first, kept_first, found, found_in, changed, kept, entered_in, taken, taken_in}
 
 -- the four bytes of an identifier
 pub id_bytes : (t : Bytes) (i : ℕ) → i + 12 ≤ length t
@@ -72,6 +73,30 @@ pub eight_bytes : (t : Bytes) (o : ℕ) → o + 8 ≤ length t
     ≡ take 8 (drop o t)
 eight_bytes t o l =
     rw (drop-cons t o 0 (omega arith), drop-cons t (suc o) 0 (omega arith), drop-cons t (suc (suc o)) 0 (omega arith), drop-cons t (suc (suc (suc o))) 0 (omega arith), drop-cons t (suc (suc (suc (suc o)))) 0 (omega arith), drop-cons t (suc (suc (suc (suc (suc o))))) 0 (omega arith), drop-cons t (suc (suc (suc (suc (suc (suc o)))))) 0 (omega arith), drop-cons t (suc (suc (suc (suc (suc (suc (suc o))))))) 0 (omega arith), add-one o, add-two o, add-three o, add-four o, add_five o, add_six o, add_seven o)
+
+-- ---- what std's `position`, by which the code searches, tells of the number
+
+length-chunks : (n : ℕ) (t : Bytes) → length (first_chunks 12 n t) ≡ n
+length-chunks zero t = refl
+length-chunks (suc n) t = ap suc (length-chunks n (drop 12 t))
+
+id_of_entry : (t : Bytes) (k : ℕ) → k < length t / 12 → id_of (get_or (entries t) k []) ≡ id_at t k
+id_of_entry t k h = rw (entry_is_at t k [] (omega arith)) (id_first (drop (k * 12) t))
+
+-- the first entry of u
+pub entered_position : (u : ℕ) (t : Bytes) → Entered u t (position (is_of u) (entries t))
+entered_position u t = by (position (is_of u) (entries t)) refl
+  where
+    n : length (entries t) ≡ length t / 12
+    n = length-chunks (length t / 12) t
+
+    by : (o : Option ℕ) → position (is_of u) (entries t) ≡ o → Entered u t o
+    by None e = λ j h. rw (← id_of_entry t j h) (position_none (is_of u) (entries t) [] e j (omega (arith, n)))
+    by (Some k) e =
+        let q = position-Some (is_of u) (entries t) k [] e in
+        let l : k < length t / 12 = omega (arith, n) in
+        let below : NotBefore u t k = λ j h. rw (← id_of_entry t j (omega arith)) (q.2 j h) in
+        (l, rw (← id_of_entry t k l) q.1, below)
 
 -- ---- what a search found, in the definition's words
 

@@ -2,6 +2,7 @@
 ghost use Rattle.std.specs.Prelude.{◌≡◌, ◌++◌, ◌+◌, ◌*◌, ◌/◌, ◌≤◌, length, take, drop, is_some, position, IfSome};
 ghost use Rattle.ground.specs.Rows.{digits};
 ghost use Rattle.table.specs.Entries.{fits, id_of, entries, is_of, entry_of, enter, enrol_in, enrolled};
+ghost use Rattle.table.specs.Located.{Entered};
 
 // Four bytes FF mark a free entry.
 pub const FREE: u32 = 0xFFFF_FFFF;
@@ -28,6 +29,7 @@ pub(crate) fn id_of(entry: [u8; 12]) -> u32
 // The first entry of the user.
 fn index_of(t: &[u8], user: u32) -> Option<usize>
     ensures found { result ≡ position (is_of user) (entries t.now) }
+    ensures entered { Entered user t.now result }
     ensures inside { IfSome result (λ k. k * 12 + 12 ≤ length t.now) }
 {
     t.as_chunks::<12>()

@@ -25,7 +25,10 @@ pub fn seal_password(key: InterchangeKey, user: u32, password: [u8; 8]) -> [u8; 
 pub fn is_authentic(t: &[u8], key: InterchangeKey, user: u32, password: [u8; 8]) -> bool
     ensures { result ≡ authentic key.0 user password (entry_of user t.now) }
 {
-    entry_of(t, user) == Some(seal_password(key, user, password))
+    match entry_of(t, user) {
+        Some(kept) => kept == seal_password(key, user, password),
+        None => false,
+    }
 }
 
 // The entry with its password under the current key; a free entry and one that matches nobody stay.
