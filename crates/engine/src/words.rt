@@ -17,12 +17,6 @@ pub fn permute(w: u64, table: &[u8], x: u64) -> u64
     bits
 }
 
-fn byte_or_zero(s: &[u8], i: usize) -> u64
-    ensures { (result ≡ get_or s.now i 0) × (result < 256) }
-{
-    u64::from(s.get(i).copied().unwrap_or(0))
-}
-
 // The first eight bytes of `s` as a word; where there are fewer, zero bytes on the right.
 // Byte by byte: copying a part of no fixed length calls `memcpy`, and the archives for C would ask for that name.
 pub fn first_block(s: &[u8]) -> u64
@@ -30,7 +24,7 @@ pub fn first_block(s: &[u8]) -> u64
 {
     let mut x: u64 = 0;
     for i in 0..8 {
-        x = x * 256 + byte_or_zero(s, i);
+        x = x * 256 + u64::from(s.get(i).copied().unwrap_or(0));
     }
     x
 }

@@ -21,14 +21,15 @@ const CURRENT: InterchangeKey = InterchangeKey([0x01, 0x01, 0x01, 0x0B, 0x01, 0x
 
 const DATA: DataKey = DataKey([0x01, 0x23, 0x45, 0x67, 0x89, 0xAB, 0xCD, 0xEF]);
 
-// Both keys of interchange 1, and users 100 to 114 in all places but the last.
+// Both keys of interchange 1, and users 100 to 114 in all places but the last. They are set and not kept: places handed to
+// `keep` would be cleared first, by `memset`, a name that the archive would then need.
 fn fifteen() -> Facility {
     let f = change_key(fresh_facility(), 1, OLD, false);
     let mut f = change_key(f, 1, CURRENT, false);
-    for i in 0..15 {
-        f.places[i] = Place {
+    for (place, user) in f.places.iter_mut().zip(100..115) {
+        *place = Place {
             taken: true,
-            user: 100 + i as u32,
+            user,
             holdings: nothing_held(),
         };
     }
@@ -68,7 +69,7 @@ pub extern "C" fn speed_ras(table: &[u8], n: u64) -> u64 {
     refused
 }
 
-// The facility becomes what it is after one command; whether that was refused comes back.
+// One command. The facility becomes what it leaves, taken from the Result at once, so that none is cleared by `memset` for a refusal.
 fn is_refused(f: &mut Facility) -> bool {
     match ldk(*f, 5, 100, 1, b't', [0; 8]) {
         Ok(outcome) => {
