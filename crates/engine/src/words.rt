@@ -18,13 +18,15 @@ pub fn permute(w: u64, table: &[u8], x: u64) -> u64
 }
 
 // The first eight bytes of `s` as a word; where there are fewer, zero bytes on the right.
+// Byte by byte: copying a part of no fixed length calls `memcpy`, and the archives for C would ask for that name.
 pub fn first_block(s: &[u8]) -> u64
     ensures { result ≡ word (padded 8 s.now) }
 {
-    let n = s.len().min(8);
-    let mut block = [0; 8];
-    block[..n].copy_from_slice(&s[..n]);
-    word_of(block)
+    let mut x: u64 = 0;
+    for i in 0..8 {
+        x = x * 256 + u64::from(s.get(i).copied().unwrap_or(0));
+    }
+    x
 }
 
 pub fn word_of(b: [u8; 8]) -> u64

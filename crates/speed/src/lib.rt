@@ -10,11 +10,10 @@ use cipher::modes::Mode;
 use exchange::data_keys::ldk;
 use officer::rpw;
 use records::by_mode;
-use rules::answers::state_after;
 use rules::{Outcome, Refusal};
 use state::interchanges::change_key;
 use state::places::{fresh_facility, keep, nothing_held};
-use state::{Facility, Held, Holdings, Side};
+use state::{Facility, Held, Holdings, Place, Side};
 
 const OLD: InterchangeKey = InterchangeKey([0xFE, 0xFE, 0xFE, 0xF4, 0xFE, 0xFE, 0xFE, 0xF4]);
 
@@ -22,12 +21,17 @@ const CURRENT: InterchangeKey = InterchangeKey([0x01, 0x01, 0x01, 0x0B, 0x01, 0x
 
 const DATA: DataKey = DataKey([0x01, 0x23, 0x45, 0x67, 0x89, 0xAB, 0xCD, 0xEF]);
 
-// Both keys of interchange 1, and users 100 to 114 in all places but the last.
+// Both keys of interchange 1, and users 100 to 114 in all places but the last. They are set and not kept: places handed to
+// `keep` would be cleared first, by `memset`, a name that the archive would then need.
 fn fifteen() -> Facility {
     let f = change_key(fresh_facility(), 1, OLD, false);
     let mut f = change_key(f, 1, CURRENT, false);
-    for user in 100..115 {
-        f = keep(f, user, nothing_held());
+    for (place, user) in f.places.iter_mut().zip(100..115) {
+        *place = Place {
+            taken: true,
+            user,
+            holdings: nothing_held(),
+        };
     }
     f
 }
@@ -65,14 +69,23 @@ pub extern "C" fn speed_ras(table: &[u8], n: u64) -> u64 {
     refused
 }
 
+// One command. The facility becomes what it leaves, taken from the Result at once, so that none is cleared by `memset` for a refusal.
+fn is_refused(f: &mut Facility) -> bool {
+    match ldk(*f, 5, 100, 1, b't', [0; 8]) {
+        Ok(outcome) => {
+            *f = outcome.state;
+            false
+        }
+        Err(_) => true,
+    }
+}
+
 #[unsafe(no_mangle)]
 pub extern "C" fn speed_ldk(n: u64) -> u64 {
     let mut f = sixteen();
-    let mut refused = 0;
+    let mut refused: u64 = 0;
     for _ in 0..n {
-        let met = ldk(f, 5, 100, 1, b't', [0; 8]);
-        refused = refusals(refused, &met);
-        f = state_after(f, &met);
+        refused = refused.wrapping_add(u64::from(is_refused(&mut f)));
     }
     refused
 }

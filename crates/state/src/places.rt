@@ -93,11 +93,11 @@ pub fn is_shut_to(f: Facility, user: u32) -> bool
 pub fn keep(f: Facility, user: u32, holdings: Holdings) -> Facility
     ensures { result ≡ with_places f (give user holdings f.places) }
 {
-    let mut places = f.places;
-    if let Some(i) = place_of(places, user).or_else(|| free_place(places)) {
-        places[i] = place_for(user, holdings);
+    let mut g = f;
+    if let Some(i) = place_of(f.places, user).or_else(|| free_place(f.places)) {
+        g.places[i] = place_for(user, holdings);
     }
-    Facility { places, ..f }
+    g
 }
 
 // The user's place is freed, with all in it.
