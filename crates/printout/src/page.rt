@@ -1,6 +1,20 @@
 // A page is a lent buffer, filled from its start on; what finds no room is left out.
 ghost use Rattle.std.specs.Prelude.{◌≡◌, [], ◌∷◌, take};
+ghost use Rattle.printout.specs.Page.{page, entered};
 ghost use Rattle.printout.specs.Inked.{inked};
+
+// A letter at this place of the letters, and the place behind it.
+#[tactic(auto, unfolding(crate::specs::Page::entered, crate::specs::Page::letter))]
+pub(crate) fn put_at(letters: &mut [u8], at: usize, letter: u8) -> usize
+    ensures { page letters.new result ≡ entered (letter ∷ []) (page letters.old at) }
+{
+    if at < letters.len() {
+        letters[at] = letter;
+        at + 1
+    } else {
+        at
+    }
+}
 
 // The letters that are lent, and how far they are filled.
 #[derive(Drop)]
@@ -16,22 +30,23 @@ impl<'a> Page<'a> {
         Page { letters, filled: 0 }
     }
 
-    #[tactic(auto, unfolding(crate::specs::Inked::inked, crate::specs::Page::entered, crate::specs::Page::letter))]
+    #[tactic(auto, unfolding(crate::specs::Inked::inked))]
     pub fn put(&mut self, letter: u8)
         ensures { self.new ≡ inked (letter ∷ []) self.old }
     {
-        if self.filled < self.letters.len() {
-            self.letters[self.filled] = letter;
-            self.filled += 1;
-        }
+        self.filled = put_at(self.letters, self.filled, letter);
     }
 
-    #[tactic(auto, using(crate::specs::Inked::entries))]
+    // In one copy, as much as finds room.
+    #[tactic(auto, unfolding(crate::specs::Inked::inked))]
     pub fn put_all(&mut self, text: &[u8])
         ensures { self.new ≡ inked text.now self.old }
     {
-        for x in text {
-            self.put(*x);
+        let at = self.filled;
+        if at < self.letters.len() {
+            let n = text.len().min(self.letters.len() - at);
+            self.letters[at..at + n].copy_from_slice(&text[..n]);
+            self.filled = at + n;
         }
     }
 }
