@@ -1,10 +1,10 @@
 // Numbers in decimal, bytes in upper-case hexadecimal.
-ghost use Rattle.std.specs.Prelude.{◌≡◌, ◌<◌};
+ghost use Rattle.std.specs.Prelude.{◌≡◌, ◌<◌, [], ◌∷◌};
 ghost use Rattle.printout.specs.Page.{page, entered};
 ghost use Rattle.printout.specs.Digits.{hex_digit, hex_byte, hex, decimal};
 ghost use Rattle.printout.specs.Inked.{inked};
 
-use crate::page::{Page, put_at};
+use crate::page::Page;
 
 #[tactic(auto, unfolding(crate::specs::Digits::hex_digit))]
 fn hex_digit(n: u8) -> u8
@@ -15,6 +15,18 @@ fn hex_digit(n: u8) -> u8
 }
 
 // On the letters alone, with the place in hand: at a page each letter would load and store it.
+#[tactic(auto, unfolding(crate::specs::Page::entered, crate::specs::Page::letter))]
+fn put_at(letters: &mut [u8], at: usize, letter: u8) -> usize
+    ensures { page letters.new result ≡ entered (letter ∷ []) (page letters.old at) }
+{
+    if at < letters.len() {
+        letters[at] = letter;
+        at + 1
+    } else {
+        at
+    }
+}
+
 #[tactic(auto, using(crate::specs::Page::parts), unfolding(crate::specs::Digits::hex_byte))]
 fn put_hex_byte_at(letters: &mut [u8], at: usize, byte: u8) -> usize
     ensures { page letters.new result ≡ entered (hex_byte byte) (page letters.old at) }

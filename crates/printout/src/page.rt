@@ -1,20 +1,6 @@
 // A page is a lent buffer, filled from its start on; what finds no room is left out.
 ghost use Rattle.std.specs.Prelude.{◌≡◌, [], ◌∷◌, take};
-ghost use Rattle.printout.specs.Page.{page, entered};
 ghost use Rattle.printout.specs.Inked.{inked};
-
-// A letter at this place of the letters, and the place behind it.
-#[tactic(auto, unfolding(crate::specs::Page::entered, crate::specs::Page::letter))]
-pub(crate) fn put_at(letters: &mut [u8], at: usize, letter: u8) -> usize
-    ensures { page letters.new result ≡ entered (letter ∷ []) (page letters.old at) }
-{
-    if at < letters.len() {
-        letters[at] = letter;
-        at + 1
-    } else {
-        at
-    }
-}
 
 // The letters that are lent, and how far they are filled.
 #[derive(Drop)]
@@ -30,11 +16,15 @@ impl<'a> Page<'a> {
         Page { letters, filled: 0 }
     }
 
-    #[tactic(auto, unfolding(crate::specs::Inked::inked))]
+    #[tactic(auto, unfolding(crate::specs::Inked::inked, crate::specs::Page::entered, crate::specs::Page::letter))]
     pub fn put(&mut self, letter: u8)
         ensures { self.new ≡ inked (letter ∷ []) self.old }
     {
-        self.filled = put_at(self.letters, self.filled, letter);
+        let at = self.filled;
+        if at < self.letters.len() {
+            self.letters[at] = letter;
+            self.filled = at + 1;
+        }
     }
 
     // In one copy, as much as finds room.
