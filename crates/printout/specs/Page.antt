@@ -1,6 +1,7 @@
 -- A page: a buffer, and how far it is filled.
 use Rattle.std.specs.Prelude.{◌≡◌, refl, cond, List, [], ◌∷◌, ◌++◌, ℕ, ◌+◌, ltb, length, set}
 use Rattle.std.proofs.Common.{sym, ap, ◌∙◌}
+use Rattle.std.proofs.lemmas.Grind.{take_at_read}
 
 pub record Page : Type 0 where
   pub letters : List ℕ
@@ -27,3 +28,13 @@ then (x ∷ xs) ys p = then xs ys (letter x p)
 -- a text entered in two parts
 pub two : (xs ys : List ℕ) (p q r : Page) → r ≡ entered ys q → q ≡ entered xs p → r ≡ entered (xs ++ ys) p
 two xs ys p q r f e = f ∙ ap (entered ys) e ∙ sym (then xs ys p)
+
+pub none : (p : Page) → entered [] p ≡ p
+unfolding entered
+none p = refl
+
+pub onto : (xs ys : List ℕ) (p : Page) → entered ys (entered xs p) ≡ entered (xs ++ ys) p
+onto xs ys p = sym (then xs ys p)
+
+-- what the code that enters several texts on the letters alone is proved with
+pub ruleset parts = (none, onto, take_at_read)

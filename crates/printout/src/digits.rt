@@ -1,5 +1,6 @@
 // Numbers in decimal, bytes in upper-case hexadecimal.
-ghost use Rattle.std.specs.Prelude.{◌≡◌, ◌<◌};
+ghost use Rattle.std.specs.Prelude.{◌≡◌, ◌<◌, [], ◌∷◌};
+ghost use Rattle.printout.specs.Page.{page, entered};
 ghost use Rattle.printout.specs.Digits.{hex_digit, hex_byte, hex, decimal};
 ghost use Rattle.printout.specs.Inked.{inked};
 
@@ -13,22 +14,51 @@ fn hex_digit(n: u8) -> u8
     if n < 10 { 48 + n } else { 55 + n }
 }
 
+// On the letters alone, with the place in hand: at a page each letter would load and store it.
+#[tactic(auto, unfolding(crate::specs::Page::entered, crate::specs::Page::letter))]
+fn put_at(letters: &mut [u8], at: usize, letter: u8) -> usize
+    ensures { page letters.new result ≡ entered (letter ∷ []) (page letters.old at) }
+{
+    if at < letters.len() {
+        letters[at] = letter;
+        at + 1
+    } else {
+        at
+    }
+}
+
+#[tactic(auto, using(crate::specs::Page::parts), unfolding(crate::specs::Digits::hex_byte))]
+fn put_hex_byte_at(letters: &mut [u8], at: usize, byte: u8) -> usize
+    ensures { page letters.new result ≡ entered (hex_byte byte) (page letters.old at) }
+{
+    let next = put_at(letters, at, hex_digit(byte / 16));
+    put_at(letters, next, hex_digit(byte % 16))
+}
+
+#[tactic(auto, using(crate::specs::Page::parts, crate::specs::Digits::hex_more), unfolding(crate::specs::Digits::hex))]
+fn put_hex_at(letters: &mut [u8], at: usize, bytes: &[u8]) -> usize
+    ensures { page letters.new result ≡ entered (hex bytes.now) (page letters.old at) }
+{
+    let mut to = at;
+    for b in bytes {
+        to = put_hex_byte_at(letters, to, *b);
+    }
+    to
+}
+
 impl Page<'_> {
-    #[tactic(auto, using(crate::specs::Inked::entries), unfolding(crate::specs::Digits::hex_byte))]
+    #[tactic(auto, unfolding(crate::specs::Inked::inked))]
     pub fn put_hex_byte(&mut self, byte: u8)
         ensures { self.new ≡ inked (hex_byte byte) self.old }
     {
-        self.put(hex_digit(byte / 16));
-        self.put(hex_digit(byte % 16));
+        self.filled = put_hex_byte_at(self.letters, self.filled, byte);
     }
 
-    #[tactic(auto, using(crate::specs::Inked::entries, crate::specs::Digits::hex_more), unfolding(crate::specs::Digits::hex))]
+    #[tactic(auto, unfolding(crate::specs::Inked::inked))]
     pub fn put_hex(&mut self, bytes: &[u8])
         ensures { self.new ≡ inked (hex bytes.now) self.old }
     {
-        for b in bytes {
-            self.put_hex_byte(*b);
-        }
+        self.filled = put_hex_at(self.letters, self.filled, bytes);
     }
 
     // The last digit behind those before it; no number has more than twenty.

@@ -20,18 +20,23 @@ impl<'a> Page<'a> {
     pub fn put(&mut self, letter: u8)
         ensures { self.new ≡ inked (letter ∷ []) self.old }
     {
-        if self.filled < self.letters.len() {
-            self.letters[self.filled] = letter;
-            self.filled += 1;
+        let at = self.filled;
+        if at < self.letters.len() {
+            self.letters[at] = letter;
+            self.filled = at + 1;
         }
     }
 
-    #[tactic(auto, using(crate::specs::Inked::entries))]
+    // In one copy, as much as finds room.
+    #[tactic(auto, unfolding(crate::specs::Inked::inked))]
     pub fn put_all(&mut self, text: &[u8])
         ensures { self.new ≡ inked text.now self.old }
     {
-        for x in text {
-            self.put(*x);
+        let at = self.filled;
+        if at < self.letters.len() {
+            let n = text.len().min(self.letters.len() - at);
+            self.letters[at..at + n].copy_from_slice(&text[..n]);
+            self.filled = at + n;
         }
     }
 }

@@ -1,5 +1,6 @@
 // A text of three blocks by a mode, in both directions. A refusal would leave the output all zeros, which is no published text.
-ghost use Rattle.std.specs.Prelude.{◌≡◌, ◌+◌, replicate};
+ghost use Rattle.std.specs.Prelude.{◌≡◌, ◌+◌, ◌++◌, replicate, slice_index};
+ghost use Rattle.cipher.specs.Bits.{bytes};
 ghost use Rattle.cipher.specs.Cipher.{applied};
 ghost use Rattle.vectors.specs.Answers.{one};
 
@@ -9,6 +10,17 @@ use crate::report::line;
 use cipher::bytes_of;
 use cipher::keys::{DataKey, Vector};
 use cipher::modes::{Mode, apply};
+
+// The text of three published blocks.
+fn text_of(blocks: [u64; 3]) -> [u8; 24]
+    ensures { result ≡ bytes (slice_index blocks 0) ++ (bytes (slice_index blocks 1) ++ bytes (slice_index blocks 2)) }
+{
+    let [first, second, third] = blocks;
+    let parts = [bytes_of(first), bytes_of(second), bytes_of(third)];
+    let mut text = [0; 24];
+    text.copy_from_slice(parts.as_flattened());
+    text
+}
 
 fn answered(
     place: Place,
@@ -32,10 +44,9 @@ fn run(group: &[u8], enciphering: Mode, deciphering: Mode, published: [u64; 3]) 
     let place = Place { group, row: 1 };
     let key = DataKey(bytes_of(KEY));
     let vector = Vector(bytes_of(VECTOR));
-    let blocks = published.map(|block| bytes_of(block));
-    let cipher = blocks.as_flattened();
-    let enciphered = answered(place, enciphering, key, vector, &PLAIN, cipher);
-    let deciphered = answered(place, deciphering, key, vector, cipher, &PLAIN);
+    let cipher = text_of(published);
+    let enciphered = answered(place, enciphering, key, vector, &PLAIN, &cipher);
+    let deciphered = answered(place, deciphering, key, vector, &cipher, &PLAIN);
     let tally = Tally {
         enciphered,
         deciphered,
