@@ -1,10 +1,10 @@
 // Numbers in decimal, bytes in upper-case hexadecimal.
-ghost use Rattle.std.specs.Prelude.{◌≡◌, ◌<◌, [], ◌∷◌};
+ghost use Rattle.std.specs.Prelude.{◌≡◌, ◌<◌};
 ghost use Rattle.printout.specs.Page.{page, entered};
 ghost use Rattle.printout.specs.Digits.{hex_digit, hex_byte, hex, decimal};
 ghost use Rattle.printout.specs.Inked.{inked};
 
-use crate::page::Page;
+use crate::page::{Page, put_at};
 
 #[tactic(auto, unfolding(crate::specs::Digits::hex_digit))]
 fn hex_digit(n: u8) -> u8
@@ -12,19 +12,6 @@ fn hex_digit(n: u8) -> u8
     ensures { result ≡ hex_digit n }
 {
     if n < 10 { 48 + n } else { 55 + n }
-}
-
-// On the letters alone, with the place in hand: at a page each letter would load and store it.
-#[tactic(auto, unfolding(crate::specs::Page::entered, crate::specs::Page::letter))]
-fn put_at(letters: &mut [u8], at: usize, letter: u8) -> usize
-    ensures { page letters.new result ≡ entered (letter ∷ []) (page letters.old at) }
-{
-    if at < letters.len() {
-        letters[at] = letter;
-        at + 1
-    } else {
-        at
-    }
 }
 
 #[tactic(auto, using(crate::specs::Page::parts), unfolding(crate::specs::Digits::hex_byte))]

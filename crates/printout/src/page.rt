@@ -1,6 +1,31 @@
 // A page is a lent buffer, filled from its start on; what finds no room is left out.
 ghost use Rattle.std.specs.Prelude.{◌≡◌, [], ◌∷◌, take};
+ghost use Rattle.printout.specs.Page.{page, entered};
 ghost use Rattle.printout.specs.Inked.{inked};
+
+// A letter at this place, and the place behind it: on the letters alone, with the place in hand. Through a page each letter would load and store it.
+#[tactic(auto, unfolding(crate::specs::Page::entered, crate::specs::Page::letter))]
+pub(crate) fn put_at(letters: &mut [u8], at: usize, letter: u8) -> usize
+    ensures { page letters.new result ≡ entered (letter ∷ []) (page letters.old at) }
+{
+    if at < letters.len() {
+        letters[at] = letter;
+        at + 1
+    } else {
+        at
+    }
+}
+
+#[tactic(auto, using(crate::specs::Page::parts))]
+fn put_all_at(letters: &mut [u8], at: usize, text: &[u8]) -> usize
+    ensures { page letters.new result ≡ entered text.now (page letters.old at) }
+{
+    let mut to = at;
+    for x in text {
+        to = put_at(letters, to, *x);
+    }
+    to
+}
 
 // The letters that are lent, and how far they are filled.
 #[derive(Drop)]
@@ -27,17 +52,11 @@ impl<'a> Page<'a> {
         }
     }
 
-    // In one copy, as much as finds room.
     #[tactic(auto, unfolding(crate::specs::Inked::inked))]
     pub fn put_all(&mut self, text: &[u8])
         ensures { self.new ≡ inked text.now self.old }
     {
-        let at = self.filled;
-        if at < self.letters.len() {
-            let n = text.len().min(self.letters.len() - at);
-            self.letters[at..at + n].copy_from_slice(&text[..n]);
-            self.filled = at + n;
-        }
+        self.filled = put_all_at(self.letters, self.filled, text);
     }
 }
 
