@@ -69,7 +69,8 @@ pub extern "C" fn speed_ras(table: &[u8], n: u64) -> u64 {
     refused
 }
 
-// One command. The facility becomes what it leaves, taken from the Result at once, so that none is cleared by `memset` for a refusal.
+// Whether LDK is refused; the facility becomes what it leaves. A function of its own: within the loop a refusal would clear a
+// whole Result by `memset`.
 fn is_refused(f: &mut Facility) -> bool {
     match ldk(*f, 5, 100, 1, b't', [0; 8]) {
         Ok(outcome) => {
