@@ -9,7 +9,7 @@ ghost use Rattle.session.specs.Run.{answer_to, shown_of, reached, turn_of, leave
 use facility::perform;
 use printout::lines::put_line;
 use printout::page::{Page, first_of};
-use rules::answers::{number_of, state_after};
+use rules::answers::number_of;
 use rules::{Outcome, Refusal, Reply};
 use state::Facility;
 use stream::Field;
@@ -63,17 +63,11 @@ pub struct Going {
 }
 
 // What stands at the reader is answered, with its line: a whole field as the command that it says; 17, where it runs past the stream's end.
+// A refusal leaves the facility where it is, uncopied.
 #[tactic(auto, unfolding(crate::specs::Run::turn_of, printout::specs::Inked::inked))]
-fn turn(
-    d: Going,
-    next: Field,
-    value: &[u8],
-    table: &mut [u8],
-    out: &mut [u8],
-    page: &mut Page,
-) -> Going
-    requires { d.ordinal + 1 < 2 ^ 64 }
-    ensures reached { reached (over result.state table.new) out.new (sheet page.new) result.ordinal ≡ turn_of next value.now (over d.state table.old) out.old (sheet page.old) d.ordinal }
+fn turn(d: &mut Going, next: Field, value: &[u8], table: &mut [u8], out: &mut [u8], page: &mut Page)
+    requires { d.old.ordinal + 1 < 2 ^ 64 }
+    ensures reached { reached (over d.new.state table.new) out.new (sheet page.new) d.new.ordinal ≡ turn_of next value.now (over d.old.state table.old) out.old (sheet page.old) d.old.ordinal }
     ensures page { page.new ≡ bearing (sheet page.new) page.old }
 {
     match next {
@@ -86,16 +80,13 @@ fn turn(
                 number_of(&answer),
                 shown(&answer, out),
             );
-            Going {
-                state: state_after(d.state, &answer),
-                ordinal: d.ordinal + 1,
+            if let Ok(outcome) = &answer {
+                d.state = outcome.state;
             }
+            d.ordinal += 1;
         }
-        Field::Cut { tag } => {
-            put_answer(page, d.ordinal, tag, u8::from(Refusal::Cut), &[]);
-            d
-        }
-        Field::End => d,
+        Field::Cut { tag } => put_answer(page, d.ordinal, tag, u8::from(Refusal::Cut), &[]),
+        Field::End => {}
     }
 }
 
@@ -112,7 +103,7 @@ pub fn run(f: Facility, table: &mut [u8], out: &mut [u8], s: &[u8], page: &mut P
     };
     // The reader moves on by what stands there: nothing is counted here.
     while r.at < r.src.len() {
-        d = turn(d, r.field(), r.value(), table, out, page);
+        turn(&mut d, r.field(), r.value(), table, out, page);
         r = r.past();
     }
     d.state

@@ -35,7 +35,7 @@ loop-r-preserved c =
     let stream = c.loop-r.invariant.stream in
     let more : at < length s = omega (arith, c.loop-r-test.true, ap length stream) in
     let turned =
-    c.turn-d.ensures.reached
+    c.turn.ensures.reached
     ∙ ap₂ (λ (f : Field) (v : Bytes). turn_of f v w out p i)
     (c.field.ensures ∙ ap (λ (x : Bytes). field_at x at) stream)
     (c.value.ensures ∙ ap (λ (x : Bytes). value_at x at) stream) in
@@ -47,7 +47,7 @@ loop-r-preserved c =
       stream = ap (λ b. b.now) c.past-r.ensures.0 ∙ stream;
       ordinal = omega (arith, moved, there.0);
       printed =
-          ap (λ (n : ℕ). printed_from c.turn-d.result.ordinal (sheet c.turn-d.new.page) (ran_from s (over c.turn-d.result.state c.turn-d.new.table) c.turn-d.new.out n)) moved
+          ap (λ (n : ℕ). printed_from c.turn.new.d.ordinal (sheet c.turn.new.page) (ran_from s (over c.turn.new.d.state c.turn.new.table) c.turn.new.out n)) moved
           ∙ there.1
           ∙ c.loop-r.invariant.printed;
       lent = search rules;
