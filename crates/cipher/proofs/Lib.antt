@@ -3,4 +3,4 @@ mod Texts
 mod Blocks
 pub mod Promise
 pub mod Determined
-pub mod Kept
+mod Kept
