@@ -2,6 +2,7 @@
 
 #![tactic(auto)]
 
+pub mod answers;
 pub mod bytes;
 pub mod heard;
 pub mod replies;

@@ -4,6 +4,7 @@ ghost use Rattle.printout.specs.Inked.{sheet, bearing};
 ghost use Rattle.counter.specs.Kept.{kept_bytes, end_marked, with_bytes};
 ghost use Rattle.counter.specs.Holds.{books_as, with_books};
 
+use clerk::answers::put_returned;
 use printout::page::Page;
 use values::Answers;
 
@@ -30,7 +31,7 @@ fn keep_bytes(kept: &mut Page, bytes: &[u8])
 {
     let room = kept.letters.len();
     if kept.filled <= room && bytes.len() <= room - kept.filled {
-        kept.put_all(bytes);
+        put_returned(kept, bytes);
     }
 }
 

@@ -74,7 +74,7 @@ impl Books<'_> {
 }
 
 // The command of this tag and value, with its answer; and the facility after it.
-// (The desk's parts one by one: of a lent desk, no rule lets the books change while the output is read.)
+// (A sitting's parts one by one: of a sitting that is lent, no rule lets the books change while the output is read.)
 #[tactic(auto, unfolding(crate::specs::Kept::booked, clerk::specs::Replies::reply))]
 fn serve(
     state: Facility,

@@ -18,7 +18,7 @@ pub fn permute(w: u64, table: &[u8], x: u64) -> u64
 }
 
 // The first eight bytes of `s` as a word; where there are fewer, zero bytes on the right.
-// Byte by byte: copying a part of no fixed length calls `memcpy`, and the archives for C would ask for that name.
+// Byte by byte: copying a part of no fixed length calls `memcpy`, and `libdoor.a` would ask C for that name.
 pub fn first_block(s: &[u8]) -> u64
     ensures { result ≡ word (padded 8 s.now) }
 {

@@ -63,7 +63,7 @@ pub struct Going {
 }
 
 // What stands at the reader is answered, with its line: a whole field as the command that it says; 17, where it runs past the stream's end.
-// A refusal leaves the facility where it is, uncopied.
+// A refusal leaves the facility where it stands: nothing is copied back.
 #[tactic(auto, unfolding(crate::specs::Run::turn_of, printout::specs::Inked::inked))]
 fn turn(d: &mut Going, next: Field, value: &[u8], table: &mut [u8], out: &mut [u8], page: &mut Page)
     requires { d.old.ordinal + 1 < 2 ^ 64 }
