@@ -1,4 +1,4 @@
-// One line or one answer at a time: what a line says, its bytes in the stream, what the desk itself says of it, and an answer's words. Nothing is kept here.
+// One line or one answer at a time: what a line says, its bytes in the stream, what the desk itself says of it, and an answer's bytes and words. Nothing is kept here.
 
 #![tactic(auto)]
 
