@@ -16,10 +16,15 @@ pub(crate) fn put_at(letters: &mut [u8], at: usize, letter: u8) -> usize
     }
 }
 
+// A text that finds room is copied whole; of another goes on what finds room, letter by letter.
 #[tactic(auto, using(crate::specs::Page::parts))]
 fn put_all_at(letters: &mut [u8], at: usize, text: &[u8]) -> usize
     ensures { page letters.new result ≡ entered text.now (page letters.old at) }
 {
+    if at <= letters.len() && text.len() <= letters.len() - at {
+        letters[at..at + text.len()].copy_from_slice(text);
+        return at + text.len();
+    }
     let mut to = at;
     for x in text {
         to = put_at(letters, to, *x);
