@@ -11,11 +11,12 @@ letters_there (x ∷ xs) ls f h =
     let b : ltb f (length ls) ≡ true = lt-ltb f (length ls) (omega arith) in
     rw b (letters_there xs (set ls f x) (f + 1) (rw length-set (omega (arith, h))) ∙ search (rules, take_more_set, drop-set-lt, append_assoc))
 
--- `now` is what the copy leaves between what stands before it and what stands behind it
-pub copied : (xs now ls : List ℕ) (f : ℕ) → now ≡ xs → f + length xs ≤ length ls
-    → page (take f ls ++ (now ++ drop (f + length xs - f) (drop f ls))) (f + length xs) ≡ entered xs (page ls f)
-copied xs now ls f e h =
+-- `now` is what the copy leaves between what stands before it and what stands behind it, `to` the place behind it
+pub copied : (xs now ls : List ℕ) (f to : ℕ) → now ≡ xs → f + length xs ≤ length ls → to ≡ f + length xs
+    → page (take f ls ++ (now ++ drop (f + length xs - f) (drop f ls))) to ≡ entered xs (page ls f)
+copied xs now ls f to e h t =
     let k : f + (f + length xs - f) ≡ f + length xs = omega arith in
-    ap (λ (t : List ℕ). page (take f ls ++ (t ++ drop (f + length xs - f) (drop f ls))) (f + length xs)) e
+    ap (λ (n : ℕ). page (take f ls ++ (now ++ drop (f + length xs - f) (drop f ls))) n) t
+    ∙ ap (λ (t : List ℕ). page (take f ls ++ (t ++ drop (f + length xs - f) (drop f ls))) (f + length xs)) e
     ∙ ap (λ (past : List ℕ). page (take f ls ++ (xs ++ past)) (f + length xs)) (drop-drop (f + length xs - f) f ls ∙ ap (λ (m : ℕ). drop m ls) k)
     ∙ sym (letters_there xs ls f h)

@@ -4,4 +4,4 @@ use Rattle.printout.proofs.page.put_all_at.Goals as goal
 
 -- src/page.rt:26:9
 pub returns-then-text-letters : goal.returns-then-text-letters
-returns-then-text-letters c = copied c.args.text.now c.copy_from_slice.new.self c.args.letters.now c.args.at c.copy_from_slice.ensures.after (omega arith)
+returns-then-text-letters c = copied c.args.text.now c.copy_from_slice.new.self c.args.letters.now c.args.at _ c.copy_from_slice.ensures.after (omega arith) (omega arith)
