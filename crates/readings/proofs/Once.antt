@@ -3,6 +3,7 @@
 use Rattle.std.specs.Prelude.{◌≡◌, ℕ, Result}
 use Rattle.std.proofs.Common.{sym, ap, ◌∙◌}
 use Rattle.printout.specs.Page.{Page, page, entered}
+use Rattle.printout.specs.Lines.{line}
 use Rattle.state.specs.declared.Facility.{Facility}
 use Rattle.state.specs.State.{Bytes}
 use Rattle.rules.specs.declared.Refusal.{Refusal}
@@ -21,7 +22,12 @@ determined_answer_to w t v out r r' a a' o o' p p' = same w.facility r r' a a' o
 pub determined_page : (p : Page) (s s' : Bytes) (n n' : ℕ) → page s n ≡ p → page s' n' ≡ p → (s ≡ s') × (n ≡ n')
 determined_page p s s' n n' e e' = (ap (λ (q : Page). q.letters) (e ∙ sym e'), ap (λ (q : Page). q.filled) (e ∙ sym e'))
 
--- so for an answer's line
+-- so for a line of any number and any bytes, as `put_answer` puts it
+pub determined_line : (ordinal tag number : ℕ) (bytes : Bytes) (p : Page) (s s' : Bytes) (n n' : ℕ)
+    → page s n ≡ entered (line ordinal tag number bytes) p → page s' n' ≡ entered (line ordinal tag number bytes) p → (s ≡ s') × (n ≡ n')
+determined_line ordinal tag number bytes p = determined_page (entered (line ordinal tag number bytes) p)
+
+-- and for the line of a command's answer
 pub determined_put_answer : (ordinal : ℕ) (a : Answered) (p : Page) (s s' : Bytes) (n n' : ℕ)
     → page s n ≡ entered (line_of ordinal a) p → page s' n' ≡ entered (line_of ordinal a) p → (s ≡ s') × (n ≡ n')
 determined_put_answer ordinal a p = determined_page (entered (line_of ordinal a) p)
