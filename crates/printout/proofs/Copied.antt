@@ -17,6 +17,6 @@ pub copied : (xs now ls : List ℕ) (f to : ℕ) → now ≡ xs → f + length x
 copied xs now ls f to e h t =
     let k : f + (f + length xs - f) ≡ f + length xs = omega arith in
     ap (λ (n : ℕ). page (take f ls ++ (now ++ drop (f + length xs - f) (drop f ls))) n) t
-    ∙ ap (λ (t : List ℕ). page (take f ls ++ (t ++ drop (f + length xs - f) (drop f ls))) (f + length xs)) e
+    ∙ ap (λ (between : List ℕ). page (take f ls ++ (between ++ drop (f + length xs - f) (drop f ls))) (f + length xs)) e
     ∙ ap (λ (past : List ℕ). page (take f ls ++ (xs ++ past)) (f + length xs)) (drop-drop (f + length xs - f) f ls ∙ ap (λ (m : ℕ). drop m ls) k)
     ∙ sym (letters_there xs ls f h)

@@ -30,7 +30,7 @@ determined_line ordinal tag number bytes p = determined_page (entered (line ordi
 -- and for the line of a command's answer
 pub determined_put_answer : (ordinal : ℕ) (a : Answered) (p : Page) (s s' : Bytes) (n n' : ℕ)
     → page s n ≡ entered (line_of ordinal a) p → page s' n' ≡ entered (line_of ordinal a) p → (s ≡ s') × (n ≡ n')
-determined_put_answer ordinal a p = determined_page (entered (line_of ordinal a) p)
+determined_put_answer ordinal a = determined_line ordinal a.tag _ _
 
 -- a whole run: state, table, output and page
 pub determined_run : (s : Bytes) (w : World) (out : Bytes) (p : Page) (f f' : Facility) (t t' o o' b b' : Bytes) (n n' : ℕ)
